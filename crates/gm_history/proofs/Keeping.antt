@@ -45,8 +45,8 @@ is_inner (notes.Opened c addr) = false
 is_inner (notes.Closed c) = false
 is_inner note = true
 
--- the step after these notes may queue the bytes to slot c: what tells of an end only for a request that ends a job, or in a tick,
--- and what hands out a job only for a grab
+-- the step after these notes may queue the bytes to slot c: what tells of an end only for a request that ends a job, or
+-- in a tick, and what hands out a job only for a grab
 abbrev pub MayQueue : Settings → List Note → Step → ℕ → List ℕ → Type 0
 MayQueue k before s c bytes =
     MaySay k before s c bytes × ((answer : Answer) → IsOfEnd k answer → bytes ≡ answer_packet answer → (is_request (is_ending k) s || is_tick s) ≡ true)
@@ -91,7 +91,8 @@ pub record MaySubmit (s : Step) (c : ℕ) (sub : Submission) : Type 0 where
   pub keeps : sub.background ≡ true → is_background asked.kind ≡ true
   pub hears : sub.background ≡ false → is_foreground asked.kind ≡ true
 
--- the step may report this of job n: what it may queue to a slot that listens, what may be noted, and whether the job ends
+-- the step may report this of job n: what it may queue to a slot that listens, what may be noted, and whether the job
+-- ends
 pub record MayReport (k : Settings) (before : List Note) (s : Step) (n : ℕ) (w : Work) (l : List Note) : Type 0 where
   pub tells : (d : ℕ) → 0 < listens d n l → (w.exceptions_only ≡ true → wants_exceptions d l ≡ true) → MayQueue k before s d (answer_packet w.answer)
   pub tells_others : (d : ℕ) → 0 < listens d n l → (w.exceptions_only && w.ends) ≡ true → wants_exceptions d l ≡ false → MayQueue k before s d (answer_packet (work_fail (handle k n)))

@@ -70,7 +70,8 @@ priority_of SubmitJobLow = Some Low
 priority_of SubmitJobLowBg = Some Low
 priority_of kind = None
 
--- how many seconds the jobs of an ability may take, 0 where there is no limit, by the request and the seconds that it says
+-- how many seconds the jobs of an ability may take, 0 where there is no limit, by the request and the seconds that it
+-- says
 abbrev pub job_seconds : Kind → ℕ → Option ℕ
 job_seconds CanDo timeout = Some 0
 job_seconds CanDoTimeout timeout = Some timeout
@@ -148,8 +149,8 @@ GoesTo modes.Stopped s = Commands s (Shutdown false)
 abbrev pub NamesJob : Settings → ℕ → List ℕ → ℕ → Type 0
 NamesJob k number bytes n = (asked : Asked) × (request_of number bytes ≡ Ok asked) × (first asked.arguments ≡ handle k n)
 
--- a step ends job n: WORK_COMPLETE or WORK_FAIL with its handle, of the slot where it runs, and with as_gearmand WORK_EXCEPTION as well,
--- or a tick that reaches its deadline; any tick reaches that of a lost job
+-- a step ends job n: WORK_COMPLETE or WORK_FAIL with its handle, of the slot where it runs, and with as_gearmand
+-- WORK_EXCEPTION as well, or a tick that reaches its deadline; any tick reaches that of a lost job
 abbrev pub Ends : Settings → List Note → Step → ℕ → Type 0
 Ends k before (Packet c number bytes) n = (is_one_of (is_ending k) (kind_of number) ≡ true) × (job_state n before ≡ states.Running c) × NamesJob k number bytes n
 Ends k before (Tick now) n = (is_running (job_state n before) ≡ true) × (late : ℕ) × (deadline n before ≡ Some late) × (late ≤ max now (moment before))

@@ -24,8 +24,8 @@ AllOpen (c ∷ slots) notes = (is_open c notes ≡ true) × AllOpen slots notes
 abbrev pub listens : ℕ → ℕ → List Note → ℕ
 listens c n notes = length (filter (λ d. c == d) (listeners n notes))
 
--- what the worker of job n asks to be passed on to a listener, by whether that gets exceptions; with as_gearmand one that gets none gets
--- WORK_FAIL instead
+-- what the worker of job n asks to be passed on to a listener, by whether that gets exceptions; with as_gearmand one
+-- that gets none gets WORK_FAIL instead
 abbrev pub passed_on : Settings → Bool → ℕ → Kind → List (List ℕ) → Option Answer
 passed_on k wants n WorkStatus a = Some (work_status (handle k n) (second a) (third a))
 passed_on k wants n WorkData a = Some (work_data (handle k n) (second a))
@@ -42,8 +42,9 @@ PassesOn k before c s d bytes =
     (n : ℕ) × (asked : Asked) × (answer : Answer) × PacketAsks c s asked × (job_state n before ≡ states.Running c) × (first asked.arguments ≡ handle k n)
     × (passed_on k (wants_exceptions d before) n asked.kind asked.arguments ≡ Some answer) × (bytes ≡ answer_packet answer) × (0 < listens d n before)
 
--- The step after these notes may queue the bytes to slot d. What a slot asks is answered only to it. Another slot gets reports of the
--- worker of a job to which it listens, and WORK_FAIL in the tick that ends such a job. Other steps queue nothing.
+-- The step after these notes may queue the bytes to slot d. What a slot asks is answered only to it. Another slot gets
+-- reports of the worker of a job to which it listens, and WORK_FAIL in the tick that ends such a job. Other steps queue
+-- nothing.
 abbrev pub MayGet : Settings → List Note → Step → ℕ → List ℕ → Type 0
 MayGet k before (Packet c number asking) d bytes = (c ≡ d) ⊎ PassesOn k before c (Packet c number asking) d bytes
 MayGet k before (Line c line) d bytes = c ≡ d

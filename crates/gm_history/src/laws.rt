@@ -3,11 +3,11 @@
 ghost use Rattle.gm_history.specs.History.{History};
 ghost use Rattle.gm_history.specs.Laws.{AfterAnySteps, InEachStep, NotesAreCaused, SleepersAreOpen, BytesArrive};
 
-/// Every note of the past was allowed when it was added: only a waiting job was given out, and only to whose
-/// grab gets it; only a job with a worker waited again or was lost, and only one that somebody wants, lost just
-/// where the worker was its last one; none was discarded that somebody wants, and none that was lost; a job got the
-/// next number, joined nothing, and its function was below its limit; a NOOP became owed only where a job waited that the
-/// slot could do; no mode came after a later one.
+/// Every note of the past was allowed when it was added: only a waiting job was given out, and only to whose grab gets
+/// it; only a job with a worker waited again or was lost, and only one that somebody wants, lost just where the worker
+/// was its last one; none was discarded that somebody wants, and none that was lost; a job got the next number, joined
+/// nothing, and its function was below its limit; a NOOP became owed only where a job waited that the slot could do; no
+/// mode came after a later one.
 pub fn each_note_was_allowed()
     ensures { AfterAnySteps History }
 {}
@@ -23,7 +23,8 @@ pub fn bytes_arrive()
     ensures { BytesArrive }
 {}
 
-/// Each note that a step adds has its cause, down to what the packet or the text line says: `Causes` has a line for each.
+/// Each note that a step adds has its cause, down to what the packet or the text line says: `Causes` has a line for
+/// each.
 pub fn notes_are_caused()
     ensures { InEachStep NotesAreCaused }
 {}

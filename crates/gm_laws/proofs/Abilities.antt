@@ -15,7 +15,6 @@ use Rattle.gm_notes.specs.Settings.{Settings}
 use Rattle.gm_notes.specs.Notes.{is_open, phase, is_asleep}
 use Rattle.gm_notes.specs.Jobs.{Ability, abilities, is_able, is_of, put, is_empty, waiting_for}
 use Rattle.gm_notes.specs.Past.{Past, with_note, with_mention, refuse}
-use Rattle.gm_notes.specs.Texts.{spaced}
 use Rattle.gm_notes.specs.Submissions.{is_bad_name, is_one_too_many}
 use Rattle.gm_notes.specs.Workers.{wake_if, add_ability, can_do, cant_do}
 use Rattle.gm_notes.specs.Requests.{first, request}
@@ -251,7 +250,7 @@ module _ (k : Settings) (c : ℕ) (start : Past) (a : List (List ℕ)) (timeout 
   f = first a
 
   badly : (kind : Kind) → names_function kind ≡ true → is_bad_name f ≡ true → IsRejected k c (asked kind) start (refuse c (codes "bad_function") start)
-  badly kind names bad = (codes "bad_function", inl (refl, names, bad_name f bad), (spaced (codes "bad_function"), refl, refl))
+  badly kind names bad = (codes "bad_function", inl (refl, names, bad_name f bad), (refl, refl))
 
   can_now : (t : ℕ) (l : List Note) → is_able_within c f t (notes.Can c f t ∷ l) ≡ true
   can_now t l = rw (same_number c) (put_now (λ ability. is_of f ability && ability.timeout == t) f t (abilities c l) (and_from (bytes_eq f f) (t == t) ((bytes_eq-Decides f f).1 refl) (same_number t)))
@@ -268,7 +267,7 @@ module _ (k : Settings) (c : ℕ) (start : Past) (a : List (List ℕ)) (timeout 
           ⊎ IsRejected k c (asked kind) start (cond u (refuse c (codes "bad_function") start) (cond v (refuse c (codes "too_many_functions") start) (add_ability c f t start)))
       by true v bad many = inr (badly kind names bad)
       by false true bad many =
-          inr (codes "too_many_functions", inr (inl (refl, (λ b. both_not (is_bad_name f) (named_badly f b) bad), inl enables, too_many k f start.notes many)), (spaced (codes "too_many_functions"), refl, refl))
+          inr (codes "too_many_functions", inr (inl (refl, (λ b. both_not (is_bad_name f) (named_badly f b) bad), inl enables, too_many k f start.notes many)), (refl, refl))
       by false false bad many = inl (woken (is_asleep (phase c start.notes) && not (is_empty (waiting_for f start.notes))))
 
   cant_does : (is_able c f (cant_do c f start).notes ≡ false) ⊎ IsRejected k c (asked CantDo) start (cant_do c f start)

@@ -1,16 +1,16 @@
 -- The laws about bytes that need more than a history.
-use Rattle.std.proofs.Common.{◌≡◌, ℕ, Bool, true, false, cond, List, [], ◌∷◌, ◌++◌, refl, sym, ap, subst, ◌∙◌}
+use Rattle.std.proofs.Common.{◌≡◌, ℕ, Bool, true, false, List, [], ◌∷◌, ◌++◌, refl, sym, ap, subst, ◌∙◌}
 use Rattle.std.proofs.Common.{arith, append_assoc}
 use Rattle.std.specs.Prelude.{◌==◌}
 use Rattle.std.proofs.lemmas.List.{append-nil}
 use Rattle.std.proofs.lemmas.Bool.Decides.{nat_tests}
 use Rattle.gm_notes.specs.Settings.{Settings}
 use Rattle.gm_notes.specs.Notes.{is_open}
-use Rattle.gm_notes.specs.Flow.{Flow, Began, Queued, Drained, Emptied, sent, waiting}
+use Rattle.gm_notes.specs.Flow.{Flow, Began, Queued, Drained, Emptied, waiting}
 use Rattle.gm_notes.specs.Past.{Past}
 use Rattle.gm_notes.specs.Steps.{Step, Drain, step}
 use Rattle.gm_history.specs.History.{History}
-use Rattle.gm_history.specs.Laws.{drained, is_kept_up, IsPrefix, SentSo}
+use Rattle.gm_history.specs.Laws.{drained, IsPrefix, SentSo}
 use Rattle.gm_laws.specs.Laws.{takes_from, OnlyDrainsTake}
 use Rattle.gm_history.proofs.StepsKeep.{step_keeps}
 use Rattle.gm_history.proofs.Bytes.{began, emptied, queued, taken, same_slot, AllSent, noted_sent}
@@ -79,29 +79,3 @@ module _ (k : Settings) (s : Step) (start : Past) where
 
   pub only_drains : History k start.notes → AllSent start → OnlyDrainsTake k start s (step k s start)
   only_drains history all = (keeps_others history all, drains_all)
-
--- ---- any flow
-
-module _ (c : ℕ) where
-  sent_began : (d : ℕ) (older : List Flow) (t : Bool) → (t ≡ false → is_kept_up c older ≡ true → sent c older ≡ drained c older ++ waiting c older) → cond t true (is_kept_up c older) ≡ true → cond t [] (sent c older) ≡ cond t [] (drained c older) ++ cond t [] (waiting c older)
-  sent_began d older true rest e = refl
-  sent_began d older false rest e = rest refl e
-
-  sent_queued : (bytes : List ℕ) (older : List Flow) (t : Bool) → sent c older ≡ drained c older ++ waiting c older → cond t (sent c older ++ bytes) (sent c older) ≡ drained c older ++ cond t (waiting c older ++ bytes) (waiting c older)
-  sent_queued bytes older true rest = ap (λ l. l ++ bytes) rest ∙ append_assoc (drained c older) (waiting c older) bytes
-  sent_queued bytes older false rest = rest
-
-  sent_drained : (older : List Flow) (t : Bool) → sent c older ≡ drained c older ++ waiting c older → sent c older ≡ cond t (drained c older ++ waiting c older) (drained c older) ++ cond t [] (waiting c older)
-  sent_drained older true rest = rest ∙ sym (append-nil (drained c older ++ waiting c older))
-  sent_drained older false rest = rest
-
-  sent_emptied : (older : List Flow) (t : Bool) → (is_kept_up c older ≡ true → sent c older ≡ drained c older ++ waiting c older) → cond t false (is_kept_up c older) ≡ true → sent c older ≡ drained c older ++ cond t [] (waiting c older)
-  sent_emptied older true rest e = absurd cc
-  sent_emptied older false rest e = rest e
-
-pub all_is_sent : (flow : List Flow) (c : ℕ) → is_kept_up c flow ≡ true → sent c flow ≡ drained c flow ++ waiting c flow
-all_is_sent [] c e = refl
-all_is_sent (Began d ∷ older) c e = sent_began c d older (c == d) (λ no_more. all_is_sent older c) e
-all_is_sent (Queued d bytes ∷ older) c e = sent_queued c bytes older (c == d) (all_is_sent older c e)
-all_is_sent (Drained d ∷ older) c e = sent_drained c older (c == d) (all_is_sent older c e)
-all_is_sent (Emptied d ∷ older) c e = sent_emptied c older (c == d) (all_is_sent older c) e

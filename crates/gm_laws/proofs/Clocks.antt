@@ -22,9 +22,9 @@ use Rattle.gm_notes.specs.Requests.{first, request, packet_of}
 use Rattle.gm_notes.specs.Steps.{Step, Packet, Tick, step, run}
 use Rattle.gm_history.specs.History.{Allowed, History}
 use Rattle.gm_history.specs.Causes.{Caused, Ends, is_request, is_ending, is_grab, is_submission, is_close}
-use Rattle.gm_laws.specs.Laws.{has_place, is_unheard, WorkersAndClocksEndJobs}
+use Rattle.gm_laws.specs.Laws.{is_unheard, WorkersAndClocksEndJobs}
 use Rattle.gm_history.proofs.Asking.{packet_does, asked_kind, asks_some, apart_requests, made_request}
-use Rattle.gm_laws.proofs.JobLaws.{running_place}
+use Rattle.gm_laws.proofs.JobLaws.{has_place, running_place}
 use Rattle.gm_laws.proofs.Passing.{reports, end_reported, works_does}
 use Rattle.gm_history.proofs.StepsKeep.{run_history}
 use Rattle.gm_history.proofs.Caused.{note_law}
@@ -123,7 +123,8 @@ closing_apart (Packet c number bytes) e = absurd cc
 closing_apart other e = refl
 
 module _ (k : Settings) (s : Step) (start : Past) (n c : ℕ) where
-  -- the job runs at the slot with the deadline that it had, or it doesn't run there any more, and the step gives it to nobody
+  -- the job runs at the slot with the deadline that it had, or it doesn't run there any more, and the step gives it to
+  -- nobody
   abbrev RunsOn : List Note → Type 0
   RunsOn l =
       ((job_state n l ≡ states.Running c) × (deadline n l ≡ deadline n start.notes))

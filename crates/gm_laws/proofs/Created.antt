@@ -29,7 +29,7 @@ use Rattle.gm_history.specs.History.{History}
 use Rattle.gm_history.specs.Causes.{is_foreground, is_background, is_submission, priority_of, JustQueues}
 use Rattle.gm_history.specs.Laws.{InEachStep}
 use Rattle.gm_history.specs.Hearing.{listens}
-use Rattle.gm_laws.specs.Submitted.{IsJoined, JoinsNone, IsNew, KeepsOrListens, IsCreated, HasNoRoom, IsLong, IsBadName, HasBadName, IsTurnedDown, SubmissionsAreAnswered}
+use Rattle.gm_laws.specs.Submitted.{JoinsNone, IsNew, JoinsOrMakes, KeepsOrListens, IsCreated, HasNoRoom, IsLong, IsBadName, HasBadName, IsTurnedDown, SubmissionsAreAnswered}
 use Rattle.gm_history.proofs.Asking.{packet_does}
 use Rattle.gm_history.proofs.Finding.{joined_is}
 use Rattle.gm_laws.proofs.JobLaws.{none_joins, unmade}
@@ -115,7 +115,7 @@ joins_so u e = (
   (λ is. let bad : joins (codes "-") ≡ true = ap joins (sym is) ∙ e in let worse : ⊥ = cc in worse),
 )
 
-so_joins : (u : List ℕ) → (u ≡ [] → ⊥) → (u ≡ codes "-" → ⊥) → joins u ≡ true
+pub so_joins : (u : List ℕ) → (u ≡ [] → ⊥) → (u ≡ codes "-" → ⊥) → joins u ≡ true
 so_joins [] some other = absurd (some refl)
 so_joins (b ∷ u) some other = by (bytes_eq (b ∷ u) (codes "-")) refl
   where
@@ -125,14 +125,27 @@ so_joins (b ∷ u) some other = by (bytes_eq (b ∷ u) (codes "-")) refl
 
 -- ---- a submission
 
--- the slot is answered with the handle of a job, which is the only one that may be new
+pub foreground_apart : (kind : Kind) → is_foreground kind ≡ true → is_background kind ≡ true → ⊥
+foreground_apart SubmitJob e b = let bad : ⊥ = cc in bad
+foreground_apart SubmitJobHigh e b = let bad : ⊥ = cc in bad
+foreground_apart SubmitJobLow e b = let bad : ⊥ = cc in bad
+foreground_apart kind e b = let bad : ⊥ = cc in bad
+
+-- what keeps the job and who listens to it is the same in both
+abbrev pub IsKeptAlike : ℕ → List Note → List Note → Type 0
+IsKeptAlike n now before = (is_kept n now ≡ is_kept n before) × (listeners n now ≡ listeners n before)
+
+-- The slot is answered with the handle of a job. This is the only job that may be new, and the only one that is kept or
+-- listened to in another way. After a foreground submission the slot listens to it behind the others.
 pub record Created (k : Settings) (c : ℕ) (asked : Asked) (start past : Past) : Type 0 where
   pub n : ℕ
   pub queued : JustQueues c (job_created (handle k n)) start past
   pub lives : is_live (job_state n past.notes) ≡ true
-  pub how : IsJoined asked n start ⊎ IsNew asked n start past
+  pub how : JoinsOrMakes asked n start past
   pub keeps : KeepsOrListens asked.kind c n start past
   pub others : (m : ℕ) → (job m past.notes ≡ job m start.notes) ⊎ ((m ≡ n) × IsNew asked n start past)
+  pub hears : is_foreground asked.kind ≡ true → listeners n past.notes ≡ listeners n start.notes ++ c ∷ []
+  pub apart : (m : ℕ) → (m == n) ≡ false → IsKeptAlike m past.notes start.notes
 
 abbrev pub Answered : Settings → ℕ → Asked → Past → Past → Type 0
 Answered k c asked start past = Created k c asked start past ⊎ IsTurnedDown k c asked start past
@@ -141,6 +154,10 @@ Answered k c asked start past = Created k c asked start past ⊎ IsTurnedDown k 
 one_new : (n m : ℕ) (what : Job) (old : Option Job) (t : Bool) → (m == n) ≡ t → (unwrap_or (cond t (Some (Some what)) None) old ≡ old) ⊎ (m ≡ n)
 one_new n m what old true is = inr (eqb-true m n is)
 one_new n m what old false is = inl refl
+
+-- another job's notes don't change it
+apart_more : (m n c : ℕ) (l before : List Note) → (m == n) ≡ false → IsKeptAlike m l before → IsKeptAlike m (notes.Kept n ∷ l) before × IsKeptAlike m (notes.Listens n c ∷ l) before
+apart_more m n c l before other same = (rw other same, rw other same)
 
 module _ (k : Settings) (c : ℕ) (asked : Asked) (start : Past) (history : History k start.notes) (p : Priority) (background : Bool) (priority : priority_of asked.kind ≡ Some p)
     (kept : background ≡ true → is_background asked.kind ≡ true) (heard : background ≡ false → is_foreground asked.kind ≡ true) where
@@ -160,6 +177,13 @@ module _ (k : Settings) (c : ℕ) (asked : Asked) (start : Past) (history : Hist
       by true is = inl (kept is, rw (same_number n) refl, same)
       by false is = inr (heard is, also, listens_once_more c n past.notes ∙ ap suc same)
 
+  heard_last : (n : ℕ) (past : Past) → listeners n past.notes ≡ listeners n start.notes → is_foreground asked.kind ≡ true → listeners n (keep_or_listen c sub n past).notes ≡ listeners n start.notes ++ c ∷ []
+  heard_last n past same e = by background refl
+    where
+      by : (t : Bool) → background ≡ t → listeners n (cond t (with_note (notes.Kept n) past) (with_note (notes.Listens n c) past)).notes ≡ listeners n start.notes ++ c ∷ []
+      by true is = absurd (foreground_apart asked.kind e (kept is))
+      by false is = rw (same_number n) (ap (λ l. l ++ c ∷ []) same)
+
   joins_it : (n : ℕ) → joined (first a) (second a) start.notes ≡ Some n → Answered k c asked start (give c (job_created (handle k n)) (keep_or_listen c sub n start))
   joins_it n is =
       let j = joined_is (first a) (second a) start.notes n is in
@@ -170,6 +194,10 @@ module _ (k : Settings) (c : ℕ) (asked : Asked) (start : Past) (history : Hist
         how = (let other = joins_so j.named.0.unique (ap joins (sym j.named.3) ∙ j.joins) in inl (j.named.0, j.named.1, j.lives, (j.named.2, j.named.3), other.0, other.1));
         keeps = keeps_or_listens n start refl refl;
         others = λ m. inl (kept_if (λ l. job m l ≡ job m start.notes) background (with_note (notes.Kept n) start) (with_note (notes.Listens n c) start) refl refl);
+        hears = heard_last n start refl;
+        apart = λ m other.
+            let more = apart_more m n c start.notes start.notes other (refl, refl) in
+            kept_if (λ l. IsKeptAlike m l start.notes) background (with_note (notes.Kept n) start) (with_note (notes.Listens n c) start) more.0 more.1;
       })
 
   -- nothing is there to be joined
@@ -195,7 +223,8 @@ module _ (k : Settings) (c : ℕ) (asked : Asked) (start : Past) (history : Hist
       λ P more x y. wake_each_notes P more f (slots_from 0 k.slots) four (kept_if P background (with_note (notes.Kept n) two) (with_note (notes.Listens n c) two) x y) in
       let lives : is_live (job_state n two.notes) ≡ true = rw (same_number n) refl in
       let here : job n two.notes ≡ Some what = rw (same_number n) refl in
-      let few : listens c n two.notes ≡ listens c n start.notes = rw (same_number n) (sym (ap (counted c) nothing.unheard)) in
+      let same_heard : listeners n two.notes ≡ listeners n start.notes = rw (same_number n) (sym nothing.unheard) in
+      let few : listens c n two.notes ≡ listens c n start.notes = ap (counted c) same_heard in
       let is_new : IsNew asked n start (wake k f four) = (what, all (λ l. job n l ≡ Some what) (λ d older x. x) here here, (priority, refl, refl, refl), nothing.unknown, none_there none) in
       let not_kept : is_kept n two.notes ≡ is_kept n start.notes = rw (same_number n) (sym nothing.unkept) in
       let keeps_so = keeps_or_listens n two few not_kept in
@@ -208,6 +237,11 @@ module _ (k : Settings) (c : ℕ) (asked : Asked) (start : Past) (history : Hist
         others = λ m.
             let same : job m one.notes ≡ job m start.notes = kept_if (λ l. job m l ≡ job m start.notes) (is_mentioned f start.notes) start (with_note (notes.Mention f) start) refl refl in
             from (one_new n m what (job m one.notes) (m == n) refl) (λ e. inl (all (λ l. job m l ≡ job m start.notes) (λ d older x. x) (e ∙ same) (e ∙ same))) (λ e. inr (e, is_new));
+        hears = λ e. wake_each_notes (λ l. listeners n l ≡ listeners n start.notes ++ c ∷ []) (λ d older x. x) f (slots_from 0 k.slots) four (heard_last n two same_heard e);
+        apart = λ m other.
+            let same : IsKeptAlike m one.notes start.notes = kept_if (λ l. IsKeptAlike m l start.notes) (is_mentioned f start.notes) start (with_note (notes.Mention f) start) (refl, refl) (refl, refl) in
+            let more = apart_more m n c two.notes start.notes other (rw other same) in
+            all (λ l. IsKeptAlike m l start.notes) (λ d older x. x) more.0 more.1;
       })
 
   joins_or_makes : (o : Option ℕ) → joined (first a) (second a) start.notes ≡ o → Answered k c asked start (join_or_make k c sub o start)

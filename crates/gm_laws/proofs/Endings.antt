@@ -18,11 +18,10 @@ use Rattle.gm_notes.specs.Requests.{packet_of}
 use Rattle.gm_notes.specs.Steps.{Step, Packet, Tick, unless, unless_not_open, run, step}
 use Rattle.gm_history.specs.History.{History}
 use Rattle.gm_history.specs.Causes.{Ends, is_ending}
-use Rattle.gm_laws.specs.Laws.{has_place}
 use Rattle.gm_laws.specs.Listeners.{outputs, Queues, copies, heard, TellsEnd, EachListenerIsTold}
 use Rattle.gm_notes.specs.Workers.{wants_exceptions}
 use Rattle.gm_history.specs.Hearing.{listens}
-use Rattle.gm_laws.proofs.JobLaws.{running_place}
+use Rattle.gm_laws.proofs.JobLaws.{has_place, running_place}
 use Rattle.gm_history.proofs.Keeping.{tell_all_notes}
 use Rattle.gm_laws.proofs.Moving.{from, both_not}
 use Rattle.gm_laws.proofs.Handles.{same_handle, fail_handle, placed_small}

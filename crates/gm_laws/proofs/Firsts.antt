@@ -67,14 +67,12 @@ module _ (notes : List Note) where
   none_waits_of p f none n what waits is same priority =
       both_not (is_empty (queue f p notes)) none (subst (λ g. is_empty (queue g p notes) ≡ false) same (subst (λ q. is_empty (queue what.function q notes) ≡ false) priority (queue_waits n notes what waits is)))
 
-module _ (k : Settings) (c : ℕ) (l : List Note) (plain : k.round_robin ≡ false) (what : Job) where
+-- the slot's abilities are tried in this order
+module _ (k : Settings) (c : ℕ) (l : List Note) (order : List Ability) (scan_is : scan k c l ≡ order) (what : Job) where
   abbrev GivesIt : Type 0
   GivesIt =
-      (earlier later : List (List ℕ)) × (functions_of c l ≡ earlier ++ what.function ∷ later)
+      (earlier later : List (List ℕ)) × (map (λ (ability : Ability). ability.function) order ≡ earlier ++ what.function ∷ later)
       × (k.as_gearmand ≡ false → All (HasNoneWaiting l) earlier) × (k.as_gearmand ≡ true → All (HasNoneWaitingOf what.priority l) earlier)
-
-  scan_is : scan k c l ≡ abilities c l
-  scan_is = ap (λ t. cond t (rotated (last_function c l) (abilities c l)) (abilities c l)) plain
 
   all_of_priority : k.as_gearmand ≡ true → (p : Priority) → what.priority ≡ p → Splits (HasNoneWaitingOf p l) (scan k c l) what.function → GivesIt
   all_of_priority set p is found =
@@ -101,7 +99,7 @@ module _ (k : Settings) (c : ℕ) (l : List Note) (plain : k.round_robin ≡ fal
       all_of_any plainly
       (splits (λ f. waiting_for f l) (HasNoneWaiting l) (none_waits l) (scan k c l) found what (λ f ns here. first_of_function f l found.job ns what here known) picked)
 
-  gives_it : (found : Pick) → pick k c l ≡ Some found → job found.job l ≡ Some what → GivesIt
+  pub gives_it : (found : Pick) → pick k c l ≡ Some found → job found.job l ≡ Some what → GivesIt
   gives_it found e known = by k.as_gearmand refl
     where
       by : (t : Bool) → k.as_gearmand ≡ t → GivesIt
@@ -112,7 +110,10 @@ gives_first : (k : Settings) (steps : List Step) (s : Step) → GivesOfTheFirst 
 gives_first k steps s n c what plain waited runs is =
     from (gives k s (run k steps) (run_history k steps) n c runs)
     (λ ran. absurd (let bad : states.Waiting ≡ states.Running c = sym waited ∙ ran in cc))
-    (λ g. gives_it k c (run k steps).notes plain what g.1.0 g.1.1 (ap (λ m. job m (run k steps).notes) g.1.2 ∙ is))
+    (λ g. gives_it k c (run k steps).notes (abilities c (run k steps).notes) (added plain) what g.1.0 g.1.1 (ap (λ m. job m (run k steps).notes) g.1.2 ∙ is))
+  where
+    added : k.round_robin ≡ false → scan k c (run k steps).notes ≡ abilities c (run k steps).notes
+    added plain = ap (λ t. cond t (rotated (last_function c (run k steps).notes) (abilities c (run k steps).notes)) (abilities c (run k steps).notes)) plain
 
 -- ---- the order
 

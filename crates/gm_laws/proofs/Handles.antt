@@ -12,9 +12,9 @@ use Rattle.gm_notes.specs.declared.note.Note.{Note}
 use Rattle.gm_notes.specs.Settings.{Settings}
 use Rattle.gm_notes.specs.Jobs.{job_state, made, handle, is_handle, job_of_handle}
 use Rattle.gm_history.specs.History.{History}
-use Rattle.gm_laws.specs.Laws.{AreConsecutive, has_place}
+use Rattle.gm_laws.specs.Laws.{AreConsecutive}
 use Rattle.gm_laws.proofs.NumberLaws.{numbers}
-use Rattle.gm_laws.proofs.JobLaws.{places}
+use Rattle.gm_laws.proofs.JobLaws.{has_place, places}
 use Rattle.std.proofs.lemmas.Bool.{eqb-true}
 use Rattle.std.proofs.lemmas.Fmt.{decimal_injective}
 

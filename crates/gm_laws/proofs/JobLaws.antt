@@ -15,13 +15,22 @@ use Rattle.gm_notes.specs.JobStates.{JobState, is_live, is_waiting, is_running}
 use Rattle.gm_notes.specs.JobStates as states
 use Rattle.gm_notes.specs.Steps.{Step, run}
 use Rattle.gm_history.specs.History.{runs_at_a_slot, Allowed, History}
-use Rattle.gm_laws.specs.Laws.{AreConsecutive, was_made, has_place, HavePlaces, AreOne, is_gone, StayGone}
+use Rattle.gm_laws.specs.Laws.{AreConsecutive, was_made, AreOne, is_gone, StayGone}
 use Rattle.gm_history.proofs.StepsKeep.{step_keeps, run_history}
 use Rattle.gm_history.proofs.Keeping.{keeps_notes, slot_runs}
 use Rattle.gm_laws.proofs.NumberLaws.{next_is, numbers}
 use Rattle.std.proofs.lemmas.Bool.{eqb-true}
 
 -- ---- numbers that are equal or not
+
+-- the job waits, runs or is lost, has ended or was discarded
+abbrev pub has_place : JobState → Bool
+has_place states.Unmade = false
+has_place other = true
+
+-- a job has a place exactly where it was made
+abbrev pub HavePlaces : List Note → Type 0
+HavePlaces notes = (n : ℕ) → has_place (job_state n notes) ≡ was_made n notes
 
 pub same_test : (n m : ℕ) → (m == n) ≡ (n == m)
 same_test n m = grind (arith, nat_tests)
@@ -79,7 +88,7 @@ place_made : (n m : ℕ) (older : List Note) (t : Bool) → has_place (job_state
 place_made n m older true rest = refl
 place_made n m older false rest = rest
 
-pub places : (k : Settings) (notes : List Note) → History k notes → HavePlaces k notes
+pub places : (k : Settings) (notes : List Note) → History k notes → HavePlaces notes
 places k [] h n = refl
 places k (Made m f p u body ∷ older) h n = place_made n m older (n == m) (places k older h.1 n) ∙ ap (λ t. t || was_made n older) (sym (same_test n m))
 places k (Returned m ∷ older) h n = place_moved n m older states.Waiting (n == m) refl refl (slot_place (job_state m older) h.0.0) (places k older h.1 n)

@@ -43,3 +43,15 @@ pub mod Lines
 pub mod Assigning
 pub mod Barred
 pub mod News
+pub mod Spelled
+pub mod Words
+pub mod Shut
+pub mod Keeping
+pub mod Withdrawing
+pub mod Answering
+pub mod Named
+pub mod Rounds
+pub mod Reading
+pub mod Written
+pub mod Commanding
+pub mod Fitting

@@ -24,10 +24,9 @@ use Rattle.gm_notes.specs.Past.{Past, with_note, with_output, with_mention}
 use Rattle.gm_notes.specs.Steps.{Step, Line, step, run}
 use Rattle.gm_history.specs.History.{Allowed, History}
 use Rattle.gm_history.specs.Causes.{Caused, Commands, is_request, is_submission}
-use Rattle.gm_laws.specs.Laws.{has_place}
 use Rattle.gm_laws.specs.Limits.{MaxqueueIsAnswered, LimitsHold}
 use Rattle.gm_history.proofs.Asking.{made_request}
-use Rattle.gm_laws.proofs.JobLaws.{places, unmade, slot_live, waiting_live, running_live, discarded_live}
+use Rattle.gm_laws.proofs.JobLaws.{has_place, places, unmade, slot_live, waiting_live, running_live, discarded_live}
 use Rattle.gm_laws.proofs.Moving.{from, both_not}
 use Rattle.gm_laws.proofs.Sleepers.{fewer, filtered_if, put_other}
 use Rattle.gm_history.proofs.StepsKeep.{run_history}
@@ -35,6 +34,7 @@ use Rattle.gm_laws.specs.Refusals.{IsErr, IsErroneous}
 use Rattle.gm_laws.proofs.Created.{mention_flow, too_many}
 use Rattle.gm_laws.proofs.Refusals.{bad_word, word_badly}
 use Rattle.gm_laws.proofs.Taken.{line_does}
+use Rattle.gm_laws.proofs.Words.{among}
 use Rattle.gm_history.proofs.Caused.{note_law}
 use Rattle.gm_notes.proofs.Numbers.{same_number}
 use Rattle.std.proofs.lemmas.Bool.{eqb-true}
@@ -244,7 +244,11 @@ pub limits : (k : Settings) (steps : List Step) (s : Step) → LimitsHold k (run
 limits k steps s =
     let h = run_history k (s ∷ steps) in let l = (run k (s ∷ steps)).notes in (
       (λ f. holds f k s (run k steps) (run_history k steps)),
-      (few_functions k l h, job_mentioned k l h, able_mentioned k l h),
+      (
+        few_functions k l h,
+        (λ n what is. among what.function (functions l) (job_mentioned k l h n what is)),
+        (λ c f is. among f (functions l) (able_mentioned k l h c f is)),
+      ),
       (λ f. stays_so k s (run k steps) (run_history k steps) f),
       maxqueue_answered k s (run k steps),
     )

@@ -30,12 +30,12 @@ use Rattle.gm_history.specs.Causes.{Caused, PacketAsks, closes}
 use Rattle.gm_history.proofs.Finding.{job_of}
 use Rattle.gm_history.proofs.StepsKeep.{run_history}
 use Rattle.gm_history.proofs.Caused.{note_law}
-use Rattle.gm_laws.specs.Laws.{AreConsecutive, has_place}
+use Rattle.gm_laws.specs.Laws.{AreConsecutive}
 use Rattle.gm_laws.specs.Answered.{IsCommanded}
 use Rattle.gm_laws.specs.Firsts.{functions_of}
 use Rattle.gm_laws.specs.Lines.{is_in, AreApart, Counts, IsOf, IsTrueOf, StatusTells, IsRising, AreOpenSlots, IsOfConnection, WorkersTells, AdminTellsTheTruth}
 use Rattle.gm_laws.specs.Lines.{FunctionsGrow, ConnectionsAreNamed}
-use Rattle.gm_laws.proofs.JobLaws.{places, live_place, running_place, below_next}
+use Rattle.gm_laws.proofs.JobLaws.{has_place, places, live_place, running_place, below_next}
 use Rattle.gm_laws.proofs.Moving.{both_not}
 use Rattle.gm_laws.proofs.NumberLaws.{numbers, slots}
 use Rattle.gm_laws.proofs.Taken.{request_does, line_does}

@@ -22,7 +22,7 @@ use Rattle.gm_notes.specs.Steps.{Step, Open, Line, Fault, free_from, free_slot, 
 use Rattle.gm_notes.specs.Steps.{unless_not_open}
 use Rattle.gm_history.specs.History.{progress, Allowed, History}
 use Rattle.gm_history.specs.Causes.{Caused, Commands, closes}
-use Rattle.gm_laws.specs.Laws.{ModesNeverGoBack}
+use Rattle.gm_laws.specs.Laws.{after_shutdown, ModesNeverGoBack}
 use Rattle.gm_history.proofs.Keeping.{kept_if}
 use Rattle.gm_laws.proofs.Moving.{from, In, slot_in, both_not}
 use Rattle.gm_laws.proofs.NumberLaws.{slots}
@@ -199,13 +199,13 @@ run_shut k (s ∷ steps) stopped = all_shut k (run k steps) (run_history k steps
 
 -- a shutdown line of a slot that takes units
 shutdown_line : (k : Settings) (start : Past) (c : ℕ) (graceful : Bool) (r : Result Commanded AdminFault) → r ≡ Ok (Shutdown graceful)
-    → cond graceful (progress Graceful) (progress Stopped) ≤ progress (mode (command k c r start).notes)
-shutdown_line k start c graceful r is = subst (λ x. cond graceful (progress Graceful) (progress Stopped) ≤ progress (mode (command k c x start).notes)) (sym is) (by graceful)
+    → mode (command k c r start).notes ≡ after_shutdown graceful (mode start.notes)
+shutdown_line k start c graceful r is = subst (λ x. mode (command k c x start).notes ≡ after_shutdown graceful (mode start.notes)) (sym is) (by graceful)
   where
-    went : (m : Mode) → mode start.notes ≡ m → progress Graceful ≤ progress (mode (go_graceful m start).notes)
-    went Running is = omega arith
-    went Graceful is = subst (λ m. 1 ≤ progress m) (sym is) (omega arith)
-    went Stopped is = subst (λ m. 1 ≤ progress m) (sym is) (omega arith)
+    went : (m : Mode) → mode start.notes ≡ m → mode (go_graceful m start).notes ≡ after_shutdown true m
+    went Running is = refl
+    went Graceful is = is
+    went Stopped is = is
 
     shut_mode : (slots : List ℕ) (past : Past) → mode (shut_each slots past).notes ≡ mode past.notes
     shut_mode [] past = refl
@@ -213,16 +213,16 @@ shutdown_line k start c graceful r is = subst (λ x. cond graceful (progress Gra
         shut_mode slots (shut_one d past)
         ∙ kept_if (λ l. mode l ≡ mode past.notes) (is_open d past.notes && not (is_shut d past.notes)) (with_note (notes.Shut d) past) past refl refl
 
-    by : (t : Bool) → cond t (progress Graceful) (progress Stopped) ≤ progress (mode (shutdown k c t start).notes)
+    by : (t : Bool) → mode (shutdown k c t start).notes ≡ after_shutdown t (mode start.notes)
     by true = went (mode start.notes) refl
-    by false = subst (λ m. 2 ≤ progress m) (sym (shut_mode (slots_from 0 k.slots) (with_output c ok_text (with_note (notes.Went Stopped) start)))) (omega arith)
+    by false = shut_mode (slots_from 0 k.slots) (with_output c ok_text (with_note (notes.Went Stopped) start))
 
 shutdown_does : (k : Settings) (s : Step) (start : Past) (c : ℕ) (line : List ℕ) (graceful : Bool) → s ≡ Line c line → Commands s (Shutdown graceful) → takes_units c start.notes ≡ true
-    → cond graceful (progress Graceful) (progress Stopped) ≤ progress (mode (step k s start).notes)
+    → mode (step k s start).notes ≡ after_shutdown graceful (mode start.notes)
 shutdown_does k s start c line graceful is asks takes =
     let reads : command_of line ≡ Ok (Shutdown graceful) = subst (λ x. Commands x (Shutdown graceful)) is asks in
-    subst (λ x. cond graceful (progress Graceful) (progress Stopped) ≤ progress (mode (step k x start).notes)) (sym is)
-    (subst (λ (past : Past). cond graceful (progress Graceful) (progress Stopped) ≤ progress (mode past.notes)) (sym (taken_is (takes_units c start.notes) (command k c (command_of line) start) start takes))
+    subst (λ x. mode (step k x start).notes ≡ after_shutdown graceful (mode start.notes)) (sym is)
+    (subst (λ (past : Past). mode past.notes ≡ after_shutdown graceful (mode start.notes)) (sym (taken_is (takes_units c start.notes) (command k c (command_of line) start) start takes))
     (shutdown_line k start c graceful (command_of line) reads))
 
 -- a free slot is found

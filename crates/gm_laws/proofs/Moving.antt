@@ -16,9 +16,8 @@ use Rattle.gm_notes.specs.Past.{Past, with_note, wake_one, wake_each}
 use Rattle.gm_notes.specs.Closings.{rising}
 use Rattle.gm_notes.specs.Steps.{Step, Close}
 use Rattle.gm_history.specs.History.{History}
-use Rattle.gm_laws.specs.Laws.{has_place}
 use Rattle.gm_history.specs.Causes.{is_close}
-use Rattle.gm_laws.proofs.JobLaws.{places}
+use Rattle.gm_laws.proofs.JobLaws.{has_place, places}
 use Rattle.gm_history.proofs.Keeping.{kept_if}
 use Rattle.std.proofs.lemmas.Bool.{eqb-true}
 

@@ -11,7 +11,7 @@ use Rattle.gm_notes.specs.Settings.{Settings}
 use Rattle.gm_notes.specs.Notes.{is_open}
 use Rattle.gm_notes.specs.Jobs.{made, next_number}
 use Rattle.gm_history.specs.History.{History}
-use Rattle.gm_laws.specs.Laws.{AreConsecutive, AreSlots}
+use Rattle.gm_laws.specs.Laws.{AreConsecutive}
 
 -- ---- numbers
 
@@ -41,7 +41,8 @@ closed_slot : (k : Settings) (c : ℕ) (older : Bool) (t : Bool) → (older ≡ 
 closed_slot k c older true rest e = absurd cc
 closed_slot k c older false rest e = rest e
 
-pub slots : (k : Settings) (notes : List Note) → History k notes → AreSlots k notes
+-- an open slot is one of those that there are
+pub slots : (k : Settings) (notes : List Note) → History k notes → (c : ℕ) → is_open c notes ≡ true → c < k.slots
 slots k [] h c e = absurd cc
 slots k (Opened d addr ∷ older) h c e = opened_slot k c d (is_open c older) (c == d) refl h.0.1 (slots k older h.1 c) e
 slots k (Closed d ∷ older) h c e = closed_slot k c (is_open c older) (c == d) (slots k older h.1 c) e

@@ -1,10 +1,10 @@
 -- Jobs are given out by priority, and then in the order in which they came to wait.
 use Rattle.std.proofs.Common.{◌≡◌, ◌⊎◌, inl, inr, ℕ, ◌<◌, ◌≤◌, Bool, true, false, cond, not, List, [], ◌∷◌, ◌++◌, length, filter, Some, None}
-use Rattle.std.proofs.Common.{refl, sym, ap, subst, ◌∙◌, arith}
+use Rattle.std.proofs.Common.{refl, sym, ap, ap₂, subst, ◌∙◌, arith}
 use Rattle.std.specs.Prelude.{◌==◌, unwrap_or}
 use Rattle.std.specs.List.{All}
 use Rattle.std.specs.Str.{bytes_eq}
-use Rattle.std.proofs.lemmas.Bool.{and_parts}
+use Rattle.std.proofs.lemmas.Bool.{and_parts, and_from}
 use Rattle.std.proofs.lemmas.List.Elements.{All-head}
 use Rattle.std.proofs.lemmas.Option.{same_Some}
 use Rattle.std.proofs.lemmas.Slice.Eq.{bytes_eq-Decides}
@@ -13,17 +13,17 @@ use Rattle.gm_notes.specs.declared.note.Note.TheVariants as notes
 use Rattle.gm_notes.specs.declared.states.Priority.{Priority}
 use Rattle.gm_notes.specs.declared.states.Priority.TheVariants.{High, Normal, Low}
 use Rattle.gm_notes.specs.Settings.{Settings}
-use Rattle.gm_notes.specs.Jobs.{Job, job_state, job, as_they_came, same_priority, rank, is_job_with, is_queued, queue, waiting_for, is_empty, is_of, scan}
+use Rattle.gm_notes.specs.Jobs.{Job, job_state, job, as_they_came, same_priority, is_job_with, is_queued, queue, waiting_for, is_empty, is_of, scan}
 use Rattle.gm_notes.specs.JobStates.{JobState, is_waiting}
 use Rattle.gm_notes.specs.JobStates as states
 use Rattle.gm_notes.specs.Past.{Past}
 use Rattle.gm_notes.specs.Steps.{Step, Close, step, run}
 use Rattle.gm_history.specs.History.{runs_at_a_slot, Allowed, History}
 use Rattle.gm_history.specs.Causes.{Caused, asks, is_grab}
-use Rattle.gm_laws.specs.Laws.{has_place}
-use Rattle.gm_laws.specs.Waiting.{came, GoesBefore, GivesTheFirst, NothingGetsInBefore, FirstComeFirstServed, IsHigher, HighGoesFirst}
-use Rattle.gm_history.proofs.Finding.{WaitsFor, waiting_for_waits, job_of}
-use Rattle.gm_laws.proofs.JobLaws.{unmade, place_still}
+use Rattle.gm_laws.specs.Waiting.{came, GoesBefore, GivesTheFirst, IsAhead, NothingGetsInBefore, FirstComeFirstServed, IsHigher, HighGoesFirst}
+use Rattle.gm_history.proofs.Finding.{WaitsFor, waiting_for_waits, job_of, waiting_is}
+use Rattle.gm_laws.proofs.JobLaws.{has_place, unmade, place_still}
+use Rattle.gm_laws.proofs.Keeping.{job_stays}
 use Rattle.gm_laws.proofs.Moving.{from, moved, In, both_not}
 use Rattle.gm_history.proofs.StepsKeep.{run_history}
 use Rattle.gm_history.proofs.Caused.{note_law}
@@ -176,9 +176,9 @@ module _ (k : Settings) (l : List Note) (history : History k l) (n : ℕ) (what 
       let rises = subst (Rising l) is (rising_filter l (is_queued other.function other.priority l) (as_they_came l) (ordered k l history).rising) in
       from (subst (In m) is stands) (λ same. absurd (apart (sym same))) (λ there. rises.0 m there)
 
-  goes_before : (p : Priority) (ns : List ℕ) → queue other.function p l ≡ n ∷ ns → (p ≡ other.priority) ⊎ (rank p < rank other.priority) → GoesBefore l n what m other
+  goes_before : (p : Priority) (ns : List ℕ) → queue other.function p l ≡ n ∷ ns → (p ≡ other.priority) ⊎ IsHigher p other.priority → GoesBefore l n what m other
   goes_before p ns is (inl same) = let head = queue_head other.function p l n ns what is known in inr (head.1 ∙ same, head_came ns (ap (λ q. queue other.function q l) (sym same) ∙ is))
-  goes_before p ns is (inr less) = let head = queue_head other.function p l n ns what is known in inl (subst (λ q. rank q < rank other.priority) (sym head.1) less)
+  goes_before p ns is (inr less) = let head = queue_head other.function p l n ns what is known in inl (subst (λ q. IsHigher q other.priority) (sym head.1) less)
 
   -- the other isn't in an empty queue
   not_empty : (p : Priority) → queue other.function p l ≡ [] → p ≡ other.priority → ⊥
@@ -190,20 +190,20 @@ module _ (k : Settings) (l : List Note) (history : History k l) (n : ℕ) (what 
       same_head : (x : ℕ) (xs ys : List ℕ) → x ∷ xs ≡ n ∷ ys → x ≡ n
       same_head x xs ys e = cc
 
-      at_head : (p : Priority) (x : ℕ) (xs ys : List ℕ) → queue other.function p l ≡ x ∷ xs → x ∷ ys ≡ n ∷ ns → (p ≡ other.priority) ⊎ (rank p < rank other.priority) → GoesBefore l n what m other
+      at_head : (p : Priority) (x : ℕ) (xs ys : List ℕ) → queue other.function p l ≡ x ∷ xs → x ∷ ys ≡ n ∷ ns → (p ≡ other.priority) ⊎ IsHigher p other.priority → GoesBefore l n what m other
       at_head p x xs ys is e less = goes_before p xs (is ∙ ap (λ y. y ∷ xs) (same_head x ys ns e)) less
 
-      high : (q : Priority) → (High ≡ q) ⊎ (rank High < rank q)
+      high : (q : Priority) → (High ≡ q) ⊎ IsHigher High q
       high High = inl refl
-      high Normal = inr (omega arith)
-      high Low = inr (omega arith)
+      high Normal = inr tt
+      high Low = inr tt
 
-      normal : (q : Priority) → (High ≡ q → ⊥) → (Normal ≡ q) ⊎ (rank Normal < rank q)
+      normal : (q : Priority) → (High ≡ q → ⊥) → (Normal ≡ q) ⊎ IsHigher Normal q
       normal High other = absurd (other refl)
       normal Normal other = inl refl
-      normal Low other = inr (omega arith)
+      normal Low other = inr tt
 
-      low : (q : Priority) → (High ≡ q → ⊥) → (Normal ≡ q → ⊥) → (Low ≡ q) ⊎ (rank Low < rank q)
+      low : (q : Priority) → (High ≡ q → ⊥) → (Normal ≡ q → ⊥) → (Low ≡ q) ⊎ IsHigher Low q
       low High other others = absurd (other refl)
       low Normal other others = absurd (others refl)
       low Low other others = inl refl
@@ -269,7 +269,8 @@ module _ (k : Settings) (s : Step) (start : Past) (history : History k start.not
   CameSo l = job_state m l ≡ states.Waiting →
       ((job_state m start.notes ≡ states.Waiting) × (came m l ≡ came m start.notes)) ⊎ ((length start.notes ≤ came m l) × (job_state m start.notes ≡ states.Waiting → ⊥))
 
-  -- there are more notes, a job that has a place keeps one, it runs only where it did or where a slot grabs, and so it came
+  -- there are more notes, a job that has a place keeps one, it runs only where it did or where a slot grabs, and so it
+  -- came
   record Since (l : List Note) : Type 0 where
     more : length start.notes ≤ length l
     placed : has_place (job_state m start.notes) ≡ true → has_place (job_state m l) ≡ true
@@ -343,8 +344,10 @@ module _ (k : Settings) (s : Step) (start : Past) (history : History k start.not
       (note_law k s start history Since (λ note older allowed cause h p. since_more note older allowed cause h p)
       (record { more = omega arith; placed = λ e. e; given = λ n c e. inl e; so = λ e. inl (e, refl) })).so
 
-nothing_before : (k : Settings) (steps : List Step) (s : Step) → NothingGetsInBefore (run k steps) (run k (s ∷ steps))
-nothing_before k steps s n m was still waits before =
+came_before : (k : Settings) (steps : List Step) (s : Step) (n m : ℕ) → job_state n (run k steps).notes ≡ states.Waiting → job_state n (run k (s ∷ steps)).notes ≡ states.Waiting
+    → job_state m (run k (s ∷ steps)).notes ≡ states.Waiting → came m (run k (s ∷ steps)).notes < came n (run k (s ∷ steps)).notes
+    → (job_state m (run k steps).notes ≡ states.Waiting) × (came m (run k steps).notes < came n (run k steps).notes)
+came_before k steps s n m was still waits before =
     let start = run k steps in
     let history = run_history k steps in
     let low = ((ordered k start.notes history).known n (waits_came n start.notes was)).0 in
@@ -352,6 +355,45 @@ nothing_before k steps s n m was still waits before =
     from (came_so k s start history m waits) (λ b. let same = a.1 in let also = b.1 in (b.0, omega (arith, same, also)))
     (λ b. let same = a.1 in let late = b.0 in absurd (omega (arith, same, late, low))))
     (λ a. absurd (a.1 was))
+
+-- ---- who is ahead
+
+in_middle : (n : ℕ) (before after : List ℕ) → In n (before ++ n ∷ after)
+in_middle n [] after = inl refl
+in_middle n (x ∷ before) after = inr (in_middle n before after)
+
+parted : (n : ℕ) (ns : List ℕ) → In n ns → (before after : List ℕ) × (ns ≡ before ++ n ∷ after)
+parted n [] i = absurd i
+parted n (x ∷ ns) (inl e) = ([], ns, ap (λ (y : ℕ). y ∷ ns) (sym e))
+parted n (x ∷ ns) (inr i) = let rest = parted n ns i in (x ∷ rest.0, rest.1, ap (λ (l : List ℕ). x ∷ l) rest.2)
+
+ahead_rises : (l : List Note) (m n : ℕ) (before between after : List ℕ) → Rising l (before ++ m ∷ (between ++ n ∷ after)) → came m l < came n l
+ahead_rises l m n [] between after r = r.0 n (in_middle n between after)
+ahead_rises l m n (x ∷ before) between after r = ahead_rises l m n before between after r.1
+
+-- where each came before all that follow, one that came before another is ahead of it
+ahead_of : (l : List Note) (m n : ℕ) (ns : List ℕ) → Rising l ns → In m ns → In n ns → came m l < came n l → IsAhead m n ns
+ahead_of l m n [] r i j lt = absurd i
+ahead_of l m n (x ∷ ns) r (inl e) (inl d) lt = absurd (let same = ap (λ y. came y l) (e ∙ sym d) in omega (arith, same, lt))
+ahead_of l m n (x ∷ ns) r (inl e) (inr j) lt = let rest = parted n ns j in ([], rest.0, rest.1, ap₂ (λ (y : ℕ) (ys : List ℕ). y ∷ ys) (sym e) rest.2)
+ahead_of l m n (x ∷ ns) r (inr i) (inl d) lt = absurd (let less = r.0 m i in let same = ap (λ y. came y l) d in omega (arith, less, same, lt))
+ahead_of l m n (x ∷ ns) r (inr i) (inr j) lt = let rest = ahead_of l m n ns r.1 i j lt in (x ∷ rest.0, rest.1, rest.2, ap (λ (l : List ℕ). x ∷ l) rest.3)
+
+nothing_before : (k : Settings) (steps : List Step) (s : Step) → NothingGetsInBefore (run k steps) (run k (s ∷ steps))
+nothing_before k steps s n m what was still is ahead =
+    let f = what.function in
+    let p = what.priority in
+    let l = (run k steps).notes in
+    let later = (run k (s ∷ steps)).notes in
+    let rises = rising_filter later (is_queued f p later) (as_they_came later) (ordered k later (run_history k (s ∷ steps))).rising in
+    let less = ahead_rises later m n ahead.0 ahead.1 ahead.2 (subst (Rising later) ahead.3 rises) in
+    let there = (in_filter (is_queued f p later) m (as_they_came later) (subst (In m) (sym ahead.3) (in_middle m ahead.0 (ahead.1 ++ n ∷ ahead.2)))).1 in
+    let parts = and_parts (is_waiting (job_state m later)) (is_job_with f p (job m later)) there in
+    let old = came_before k steps s n m was still (waiting_is (job_state m later) parts.0) less in
+    let known : is_job_with f p (job m l) ≡ true = ap (is_job_with f p) (sym (job_stays k steps s m (ap has_place old.0))) ∙ parts.1 in
+    let here = and_from (is_waiting (job_state m l)) (is_job_with f p (job m l)) (ap is_waiting old.0) known in
+    ahead_of l m n (queue f p l) (rising_filter l (is_queued f p l) (as_they_came l) (ordered k l (run_history k steps)).rising)
+    (in_kept (is_queued f p l) m (as_they_came l) (waits_came m l old.0) here) (in_kept (is_queued f p l) n (as_they_came l) (waits_came n l was) (is_queued_here n l what was is)) old.1
 
 pub first_served : (k : Settings) (steps : List Step) (s : Step) → FirstComeFirstServed k (run k steps) s (run k (s ∷ steps))
 first_served k steps s = (gives_first k steps s, nothing_before k steps s)

@@ -24,11 +24,12 @@ use Rattle.gm_notes.specs.Steps.{Step, Packet, Close, refusal, step, run}
 use Rattle.gm_history.specs.History.{Allowed, History}
 use Rattle.gm_history.specs.Causes.{Caused, is_close, is_submission, is_request, is_one_of}
 use Rattle.gm_laws.specs.Between.{NoWaitingJobIsOrphaned}
-use Rattle.gm_laws.specs.Laws.{has_place}
 use Rattle.gm_history.proofs.Asking.{made_request}
 use Rattle.gm_history.proofs.Keeping.{keeps_notes, kept_if}
+use Rattle.gm_laws.proofs.JobLaws.{has_place}
 use Rattle.gm_laws.proofs.Moving.{closes_not, both_not, moved, from, not_both, In, placed_rises, wake_each_notes}
 use Rattle.gm_history.proofs.StepsKeep.{step_keeps, taken_or_not, packet_of_kinds, run_history}
+use Rattle.gm_laws.proofs.Words.{words}
 
 -- each waiting job is wanted, but for these
 abbrev WantedSo : (ℕ → Type 0) → List Note → Type 0
@@ -199,5 +200,8 @@ pub run_wanted : (k : Settings) (steps : List Step) → WantedSo None_ (run k st
 run_wanted k [] n e = absurd cc
 run_wanted k (s ∷ steps) n e = step_wanted k s (run k steps) (run_history k steps) (run_wanted k steps) n e
 
+pub waits_wanted : (k : Settings) (steps : List Step) (n : ℕ) → job_state n (run k steps).notes ≡ states.Waiting → is_wanted n (run k steps).notes ≡ true
+waits_wanted k steps n e = from (run_wanted k steps n e) (λ w. w) (λ x. absurd x)
+
 pub none_orphaned : (k : Settings) (steps : List Step) → NoWaitingJobIsOrphaned k (run k steps).notes
-none_orphaned k steps n e = from (run_wanted k steps n e) (λ w. w) (λ x. absurd x)
+none_orphaned k steps n e = (words.wanted n (run k steps).notes).0 (waits_wanted k steps n e)

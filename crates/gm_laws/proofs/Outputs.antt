@@ -9,9 +9,9 @@ use Rattle.std.proofs.lemmas.List.Elements.{filter-append}
 use Rattle.std.proofs.lemmas.List.Folds.{concat-append}
 use Rattle.std.proofs.lemmas.Slice.Eq.{bytes_eq-Decides}
 use Rattle.gm_packet.specs.Answers.{Answer, answer_packet}
-use Rattle.gm_notes.specs.Flow.{Began, Queued, Drained, Emptied, sent}
+use Rattle.gm_notes.specs.Flow.{Flow, Began, Queued, Drained, Emptied, sent}
 use Rattle.gm_notes.specs.Past.{Past, give, tell_all}
-use Rattle.gm_laws.specs.Listeners.{outputs, OutputsAreSent, Queues, copies}
+use Rattle.gm_laws.specs.Listeners.{outputs, Queues, copies}
 
 -- ---- joined
 
@@ -23,7 +23,7 @@ joined_more : (t : Bool) (bytes more : List ℕ) (queued : List (List ℕ)) → 
 joined_more true bytes more queued e = ap (λ l. l ++ more) e ∙ (ap (λ l. concat queued ++ l) (sym (append-nil more)) ∙ sym (concat-append queued (more ∷ [])))
 joined_more false bytes more queued e = e
 
-pub joined : OutputsAreSent
+pub joined : (flow : List Flow) (c : ℕ) → sent c flow ≡ concat (outputs c flow)
 joined [] c = refl
 joined (Began d ∷ older) c = joined_began (c == d) (sent c older) (outputs c older) (joined older c)
 joined (Queued d bytes ∷ older) c = joined_more (c == d) (sent c older) bytes (outputs c older) (joined older c)

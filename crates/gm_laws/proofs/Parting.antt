@@ -20,7 +20,7 @@ use Rattle.gm_history.proofs.StepsKeep.{run_history}
 use Rattle.gm_history.proofs.Caused.{note_law}
 use Rattle.gm_laws.specs.Closing.{ListensNoMore, LeavesItsJobs, ClosingCloses}
 use Rattle.gm_laws.proofs.Moving.{both_not, not_both, wake_each_notes}
-use Rattle.gm_laws.proofs.Orphans.{none_orphaned}
+use Rattle.gm_laws.proofs.Orphans.{waits_wanted}
 use Rattle.gm_laws.proofs.Runners.{runners_open}
 use Rattle.gm_laws.proofs.StepLaws.{taken_is}
 use Rattle.gm_notes.proofs.Numbers.{same_number}
@@ -204,7 +204,7 @@ closed_so k steps c opened =
     let after = run k (Close c ∷ steps) in
     let l : Left k c start after.notes = subst (λ (past : Past). Left k c start past.notes) (sym (taken_is (is_open c start.notes) (close k c start) start opened)) (left k c start) in
     let runs = runners_open k (Close c ∷ steps) in
-    let wants = none_orphaned k (Close c ∷ steps) in
+    let wants = waits_wanted k (Close c ∷ steps) in
     (l.closed, listens_not k c start after l runs wants, leaves k c start after l runs wants)
 
 -- an open slot stays open in a step that isn't its closing

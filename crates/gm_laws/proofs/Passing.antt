@@ -1,6 +1,6 @@
 -- What workers say of their jobs is passed on.
 use Rattle.std.proofs.Common.{◌≡◌, ℕ, suc, Bool, true, false, cond, not, ◌&&◌, List, [], ◌∷◌, ◌++◌, length, filter, replicate, Option}
-use Rattle.std.proofs.Common.{Some, None, Ok, refl, sym, ap, ◌∙◌, append_assoc}
+use Rattle.std.proofs.Common.{Some, None, Ok, refl, sym, ap, subst, ◌∙◌, append_assoc}
 use Rattle.std.specs.Prelude.{◌==◌}
 use Rattle.std.proofs.lemmas.Option.{same_Some}
 use Rattle.std.proofs.lemmas.List.{append-nil}
@@ -10,20 +10,22 @@ use Rattle.gm_packet.specs.Kinds.{kind_of}
 use Rattle.gm_packet.specs.Requests.{Asked, request_of}
 use Rattle.gm_packet.specs.Answers.{Answer, answer_packet, work_status, work_complete, work_fail, work_data, work_warning}
 use Rattle.gm_packet.specs.Answers.{work_exception}
+use Rattle.gm_notes.specs.declared.note.Note.{Note}
+use Rattle.gm_notes.specs.Flow.{Flow, Queued}
 use Rattle.gm_notes.specs.Settings.{Settings}
 use Rattle.gm_notes.specs.Notes.{takes_units}
 use Rattle.gm_notes.specs.Jobs.{job_state, listeners, handle, job_of_handle}
 use Rattle.gm_notes.specs.JobStates.{JobState, is_running_at}
 use Rattle.gm_notes.specs.JobStates as states
-use Rattle.gm_notes.specs.Past.{Past, tell_all}
+use Rattle.gm_notes.specs.Past.{Past, give, tell_all}
 use Rattle.gm_notes.specs.Workers.{Work, keep_report, end_if, wants_exceptions, hearers, tell_others, tell_work, work_on, work}
 use Rattle.gm_notes.specs.Requests.{packet_of, first, second, third, passing, ending, request}
 use Rattle.gm_notes.specs.Steps.{Packet, run, step}
 use Rattle.gm_history.specs.History.{History}
 use Rattle.gm_history.specs.Causes.{is_ending}
-use Rattle.gm_laws.specs.Laws.{has_place}
-use Rattle.gm_laws.specs.Listeners.{outputs, Queues, heard, WhatWorkersSayIsPassedOn}
+use Rattle.gm_laws.specs.Listeners.{outputs, Queues, heard, slots_told, told_in_order, AreToldInOrder, WhatWorkersSayIsPassedOn}
 use Rattle.gm_history.specs.Hearing.{listens, passed_on}
+use Rattle.gm_laws.proofs.JobLaws.{has_place}
 use Rattle.gm_laws.proofs.Handles.{handle_names}
 use Rattle.gm_laws.proofs.Outputs.{told}
 use Rattle.gm_laws.proofs.StepLaws.{taken_is}
@@ -117,6 +119,60 @@ module _ (k : Settings) (w : Work) (n : ℕ) (start : Past) (c : ℕ) where
       ∙ (ap (λ l. l ++ others (w.exceptions_only && w.ends)) (told c w.answer slots one ∙ ap (λ l. l ++ first_told) (reported_queues w.report c n start))
       ∙ (append_assoc (outputs c start.flow) first_told (others (w.exceptions_only && w.ends)) ∙ ap (λ l. outputs c start.flow ++ l) heard_so)))
 
+-- ---- in which order
+
+slots_append : (newer older : List Flow) → slots_told (newer ++ older) ≡ slots_told older ++ slots_told newer
+slots_append [] older = sym (append-nil (slots_told older))
+slots_append (Queued d bytes ∷ newer) older = ap (λ l. l ++ d ∷ []) (slots_append newer older) ∙ append_assoc (slots_told older) (slots_told newer) (d ∷ [])
+slots_append (one ∷ newer) older = slots_append newer older
+
+-- from one past to the other these slots are told, in this order
+abbrev ToldSo : List ℕ → Past → Past → Type 0
+ToldSo slots before after = (newer : List Flow) × (after.flow ≡ newer ++ before.flow) × (slots_told newer ≡ slots)
+
+all_in_order : (answer : Answer) (slots : List ℕ) (past : Past) → ToldSo slots past (tell_all answer slots past)
+all_in_order answer [] past = ([], refl, refl)
+all_in_order answer (d ∷ slots) past =
+    let one : List Flow = Queued d (answer_packet answer) ∷ [] in
+    let rest = all_in_order answer slots (give d answer past) in
+    (rest.0 ++ one, rest.1 ∙ sym (append_assoc rest.0 one past.flow), slots_append rest.0 one ∙ ap (λ l. d ∷ l) rest.2)
+
+-- those who don't get exceptions
+abbrev without : Bool → List ℕ → List Note → List ℕ
+without t slots l = cond t (filter (λ d. not (wants_exceptions d l)) slots) []
+
+others_in_order : (t : Bool) (answer : Answer) (slots : List ℕ) (l : List Note) (past : Past) → ToldSo (without t slots l) past (tell_others t answer slots l past)
+others_in_order true answer slots l past = all_in_order answer (filter (λ d. not (wants_exceptions d l)) slots) past
+others_in_order false answer slots l past = ([], refl, refl)
+
+reported_flow : (o : Option (List ℕ × List ℕ)) (n : ℕ) (past : Past) → (keep_report n o past).flow ≡ past.flow
+reported_flow None n past = refl
+reported_flow (Some numbers) n past = refl
+
+ended_flow : (t : Bool) (n : ℕ) (past : Past) → (end_if t n past).flow ≡ past.flow
+ended_flow true n past = refl
+ended_flow false n past = refl
+
+module _ (k : Settings) (w : Work) (n : ℕ) (start : Past) where
+  abbrev gets : List ℕ
+  gets = hearers w.exceptions_only (listeners n start.notes) start.notes
+
+  abbrev gets_not : List ℕ
+  gets_not = without (w.exceptions_only && w.ends) (listeners n start.notes) start.notes
+
+  in_order : ToldSo (gets ++ gets_not) start (tell_work k w n start)
+  in_order =
+      let one = keep_report n w.report start in
+      let two = tell_all w.answer gets one in
+      let three = tell_others (w.exceptions_only && w.ends) (work_fail (handle k n)) (listeners n start.notes) start.notes two in
+      let a = all_in_order w.answer gets one in
+      let b = others_in_order (w.exceptions_only && w.ends) (work_fail (handle k n)) (listeners n start.notes) start.notes two in (
+        b.0 ++ a.0,
+        ended_flow w.ends n three
+            ∙ (b.1 ∙ (ap (λ l. b.0 ++ l) (a.1 ∙ ap (λ l. a.0 ++ l) (reported_flow w.report n start)) ∙ sym (append_assoc b.0 a.0 start.flow))),
+        slots_append b.0 a.0 ∙ (ap (λ l. l ++ slots_told b.0) a.2 ∙ ap (λ l. gets ++ l) b.2),
+      )
+
 -- ---- reports
 
 -- a report is a WORK packet, and each slot is to get what is passed on to it
@@ -125,6 +181,7 @@ pub record Reports (k : Settings) (kind : Kind) (a : List (List ℕ)) : Type 0 w
   pub does : (c timeout : ℕ) (past : Past) → request k c kind a timeout past ≡ work k c (first a) packet past
   pub says : (n : ℕ) (wants : Bool) → first a ≡ handle k n → says_to k packet n wants ≡ passed_on k wants n kind a
   pub ends : packet.ends ≡ is_ending k kind
+  pub order : (slots : List ℕ) (l : List Note) → hearers packet.exceptions_only slots l ++ without (packet.exceptions_only && packet.ends) slots l ≡ told_in_order k kind slots l
 
 pub reports : (k : Settings) (n : ℕ) (kind : Kind) (a : List (List ℕ)) (report : Answer) → passed_on k true n kind a ≡ Some report → Reports k kind a
 reports k n WorkStatus a report e = record {
@@ -132,36 +189,42 @@ reports k n WorkStatus a report e = record {
   does = λ c timeout past. refl;
   says = λ n wants names. ap (λ h. Some (work_status h (second a) (third a))) names;
   ends = refl;
+  order = λ slots l. append-nil slots;
 }
 reports k n WorkData a report e = record {
   packet = passing (work_data (first a) (second a));
   does = λ c timeout past. refl;
   says = λ n wants names. ap (λ h. Some (work_data h (second a))) names;
   ends = refl;
+  order = λ slots l. append-nil slots;
 }
 reports k n WorkWarning a report e = record {
   packet = passing (work_warning (first a) (second a));
   does = λ c timeout past. refl;
   says = λ n wants names. ap (λ h. Some (work_warning h (second a))) names;
   ends = refl;
+  order = λ slots l. append-nil slots;
 }
 reports k n WorkException a report e = record {
   packet = record (passing (work_exception (first a) (second a))) { exceptions_only = true; ends = k.as_gearmand };
   does = λ c timeout past. refl;
   says = λ n wants names. ap (λ h. cond wants (Some (work_exception h (second a))) (cond k.as_gearmand (Some (work_fail (handle k n))) None)) names;
   ends = refl;
+  order = λ slots l. refl;
 }
 reports k n WorkComplete a report e = record {
   packet = ending (work_complete (first a) (second a));
   does = λ c timeout past. refl;
   says = λ n wants names. ap (λ h. Some (work_complete h (second a))) names;
   ends = refl;
+  order = λ slots l. append-nil slots;
 }
 reports k n WorkFail a report e = record {
   packet = ending (work_fail (first a));
   does = λ c timeout past. refl;
   says = λ n wants names. ap (λ h. Some (work_fail h)) names;
   ends = refl;
+  order = λ slots l. append-nil slots;
 }
 reports k n kind a report e = absurd cc
 
@@ -195,6 +258,11 @@ module _ (k : Settings) (worker n : ℕ) (start : Past) (history : History k sta
       ap (λ (past : Past). outputs c past.flow) (r.does worker timeout start ∙ works_does r.packet (first a) names)
       ∙ (tells k r.packet n start c ∙ ap (λ o. outputs c start.flow ++ heard o (listens c n start.notes)) (r.says n (wants_exceptions c start.notes) names))
 
+  asks_in_order : (kind : Kind) (a : List (List ℕ)) (timeout : ℕ) → Reports k kind a → first a ≡ handle k n → AreToldInOrder k kind n start (request k worker kind a timeout start)
+  asks_in_order kind a timeout r names =
+      let so = in_order k r.packet n start in
+      (so.0, ap (λ (past : Past). past.flow) (r.does worker timeout start ∙ works_does r.packet (first a) names) ∙ so.1, so.2 ∙ r.order (listeners n start.notes) start.notes)
+
 -- ---- packets
 
 pub passed : (k : Settings) (start : Past) → History k start.notes → (worker n number : ℕ) (bytes : List ℕ) (asked : Asked) (report : Answer)
@@ -206,6 +274,17 @@ passed k start history worker n number bytes asked report takes runs reads names
     (taken_is (takes_units worker start.notes) (packet_of k worker (kind_of number) bytes start) start takes ∙ packet_does bytes asked k worker start (kind_of number) reads)
     ∙ asks k worker n start history runs asked.kind asked.arguments asked.timeout (reports k n asked.kind asked.arguments report is) names c
 
+passed_in_order : (k : Settings) (start : Past) → History k start.notes → (worker n number : ℕ) (bytes : List ℕ) (asked : Asked) (report : Answer)
+    → takes_units worker start.notes ≡ true → job_state n start.notes ≡ states.Running worker
+    → request_of number bytes ≡ Ok asked → first asked.arguments ≡ handle k n → passed_on k true n asked.kind asked.arguments ≡ Some report
+    → AreToldInOrder k asked.kind n start (step k (Packet worker number bytes) start)
+passed_in_order k start history worker n number bytes asked report takes runs reads names is =
+    subst (AreToldInOrder k asked.kind n start)
+    (sym (taken_is (takes_units worker start.notes) (packet_of k worker (kind_of number) bytes start) start takes ∙ packet_does bytes asked k worker start (kind_of number) reads))
+    (asks_in_order k worker n start history runs asked.kind asked.arguments asked.timeout (reports k n asked.kind asked.arguments report is) names)
+
 pub all_passed : WhatWorkersSayIsPassedOn
-all_passed k steps worker n number bytes asked report takes runs reads names is c =
-    passed k (run k steps) (run_history k steps) worker n number bytes asked report takes runs reads names is c
+all_passed k steps worker n number bytes asked report takes runs reads names is = (
+  (λ c. passed k (run k steps) (run_history k steps) worker n number bytes asked report takes runs reads names is c),
+  passed_in_order k (run k steps) (run_history k steps) worker n number bytes asked report takes runs reads names is,
+)

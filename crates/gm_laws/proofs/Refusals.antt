@@ -37,7 +37,7 @@ use Rattle.gm_notes.specs.Jobs.{is_empty, waiting_for, listeners}
 use Rattle.gm_notes.specs.JobStates.{is_running_at, is_live, is_running}
 use Rattle.gm_notes.specs.JobStates as states
 use Rattle.gm_notes.specs.Past.{Past, with_note, with_output, give, refuse, with_mention, tell_all}
-use Rattle.gm_notes.specs.Texts.{spaced, fault_text}
+use Rattle.gm_notes.specs.Texts.{fault_text}
 use Rattle.gm_notes.specs.declared.event.UnitFault.{UnitFault}
 use Rattle.gm_notes.specs.declared.event.UnitFault.TheVariants.{BadMagic, PacketTooLarge, LineTooLong}
 use Rattle.gm_notes.specs.Submissions.{Submission, max_name, is_bad_name, is_one_too_many, is_full, submit}
@@ -54,9 +54,9 @@ use Rattle.gm_history.proofs.StepsKeep.{run_history}
 use Rattle.gm_laws.specs.Submitted.{JoinsNone, IsBadName}
 use Rattle.gm_laws.specs.Refusals.{IsError, IsErr, IsBadWord, IsOneTooMany, IsAtLimit, names_function, names_run, BringsFunction}
 use Rattle.gm_laws.specs.Refusals.{HasReason, IsUnserved, IsErroneous, IsToldOf, answers, AllAnswer, JustAnswers, RefusalsHaveTheirReason}
+use Rattle.gm_laws.proofs.JobLaws.{has_place}
 use Rattle.gm_laws.proofs.Created.{bad_name, too_many, full, joins_so, mention_flow, request_answered, Answered as SubmittedSo}
 use Rattle.gm_laws.proofs.Handles.{handle_names}
-use Rattle.gm_laws.specs.Laws.{has_place}
 use Rattle.gm_notes.proofs.Numbers.{same_number}
 use Rattle.gm_laws.proofs.Moving.{both_not}
 use Rattle.gm_laws.proofs.Grabs.{stirred_flow}
@@ -125,7 +125,7 @@ none_joined asked past none = by (joined (first asked.arguments) (second asked.a
 
 module _ (k : Settings) (c : ℕ) (start : Past) where
   error_is : (code : List ℕ) (after : Past) → after ≡ refuse c code start → IsError c code start after
-  error_is code after is = subst (IsError c code start) (sym is) (spaced code, refl, refl)
+  error_is code after is = subst (IsError c code start) (sym is) (refl, refl)
 
   -- a submission
   module _ (p : Priority) (background : Bool) (asked : Asked) where
@@ -498,8 +498,8 @@ module _ (k : Settings) (c : ℕ) (start : Past) where
   erroneous (Ok command) error is = absurd is
 
 told_of : (c : ℕ) (fault : UnitFault) (start : Past) → IsToldOf c fault start (with_note (notes.Shut c) (with_output c (fault_text fault) start))
-told_of c BadMagic start = (spaced (codes "bad_magic"), refl)
-told_of c PacketTooLarge start = (spaced (codes "packet_too_large"), refl)
+told_of c BadMagic start = refl
+told_of c PacketTooLarge start = refl
 told_of c LineTooLong start = refl
 
 pub refusals : (k : Settings) (steps : List Step) (s : Step) → RefusalsHaveTheirReason k (run k steps) s (run k (s ∷ steps))

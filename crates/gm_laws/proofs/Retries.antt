@@ -16,11 +16,10 @@ use Rattle.gm_notes.specs.Closings.{is_reached}
 use Rattle.gm_notes.specs.Steps.{Step, Packet, Tick, step}
 use Rattle.gm_history.specs.History.{runs_at_a_slot, Allowed, History}
 use Rattle.gm_history.specs.Causes.{Caused, Ends, is_tick}
-use Rattle.gm_laws.specs.Laws.{has_place}
-use Rattle.gm_laws.specs.Retries.{times, hands_out, gives_back, loses, NoJobIsHandedOutMoreOften, NoJobIsLostTwice}
-use Rattle.gm_laws.specs.Retries.{NoneIsLostWithoutALimit, IsLostSo, OnlyTheLastTryLoses, LostJobsEndWithTheNextTick}
+use Rattle.gm_laws.specs.Retries.{times, hands_out, gives_back, loses, NoJobIsHandedOutMoreOften}
+use Rattle.gm_laws.specs.Retries.{IsLostSo, OnlyTheLastTryLoses, LostJobsEndWithTheNextTick}
 use Rattle.gm_laws.proofs.Clocks.{IsDue, tick_ends}
-use Rattle.gm_laws.proofs.JobLaws.{unmade}
+use Rattle.gm_laws.proofs.JobLaws.{has_place, unmade}
 use Rattle.gm_laws.proofs.Moving.{both_not}
 use Rattle.gm_history.proofs.Keeping.{keeps_notes}
 use Rattle.gm_history.proofs.StepsKeep.{step_keeps}
@@ -120,14 +119,14 @@ counts k (notes.Ended m ∷ older) n h = ended_counts k n m older (counts k olde
 counts k (notes.Discarded m ∷ older) n h = discarded_counts k n m older (counts k older n h.1) (n == m) refl h.0.0
 counts k (note ∷ older) n h = counts k older n h.1
 
--- a job was handed out once more, at most, than it came back, and lost once at most
-in_all : (s : JobState) (out back lost : ℕ) → Counts s out back lost → (out ≤ suc back) × (lost ≤ 1)
-in_all states.Unmade out back lost h = (let none = h.0 in omega arith, let none = h.2 in omega arith)
-in_all states.Waiting out back lost h = (let same = h.0 in omega arith, let none = h.1 in omega arith)
-in_all (states.Running c) out back lost h = (let one_more = h.0 in omega arith, let none = h.1 in omega arith)
-in_all states.Lost out back lost h = (let one_more = h.0 in omega arith, let one = h.1 in omega arith)
-in_all states.Ended out back lost h = (let one_more = h.0 in omega arith, h.1)
-in_all states.Discarded out back lost h = (h.0, let none = h.1 in omega arith)
+-- a job was handed out once more, at most, than it came back
+in_all : (s : JobState) (out back lost : ℕ) → Counts s out back lost → out ≤ suc back
+in_all states.Unmade out back lost h = let none = h.0 in omega arith
+in_all states.Waiting out back lost h = let same = h.0 in omega arith
+in_all (states.Running c) out back lost h = let one_more = h.0 in omega arith
+in_all states.Lost out back lost h = let one_more = h.0 in omega arith
+in_all states.Ended out back lost h = let one_more = h.0 in omega arith
+in_all states.Discarded out back lost h = h.0
 
 -- ---- the returns since a job was made are all that there are
 
@@ -169,14 +168,11 @@ below k (note ∷ older) n h limit = below k older n h.1 limit
 
 pub no_more_often : (k : Settings) (l : List Note) → History k l → NoJobIsHandedOutMoreOften k l
 no_more_often k l h limit n =
-    let out = (in_all (job_state n l) (times (hands_out n) l) (times (gives_back n) l) (times (loses n) l) (counts k l n h)).0 in
+    let out = (in_all (job_state n l) (times (hands_out n) l) (times (gives_back n) l) (times (loses n) l) (counts k l n h)) in
     let back = subst (λ b. b < k.retries) (came_back k l n h) (below k l n h limit) in
     omega arith
 
 -- ---- who is lost
-
-pub not_twice : (k : Settings) (l : List Note) → History k l → NoJobIsLostTwice k l
-not_twice k l h n = (in_all (job_state n l) (times (hands_out n) l) (times (gives_back n) l) (times (loses n) l) (counts k l n h)).1
 
 pub lost_so : (k : Settings) (n : ℕ) (older : List Note) → Allowed k (notes.Lost n) older → History k older → IsLostSo k older n
 lost_so k n older allowed h =
@@ -193,11 +189,6 @@ history_of k (note ∷ newer) older h = history_of k newer older h.1
 
 pub only_last : (k : Settings) (l : List Note) → History k l → OnlyTheLastTryLoses k l
 only_last k l h newer older n e = let g = history_of k newer (notes.Lost n ∷ older) (subst (History k) e h) in lost_so k n older g.0 g.1
-
-pub none_lost : (k : Settings) (l : List Note) → History k l → NoneIsLostWithoutALimit k l
-none_lost k [] h none n = refl
-none_lost k (notes.Lost m ∷ older) h none n = let some = (lost_so k m older h.0 h.1).0 in absurd (omega arith)
-none_lost k (note ∷ older) h none n = none_lost k older h.1 none n
 
 -- ---- until the next tick
 

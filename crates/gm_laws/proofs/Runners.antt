@@ -17,9 +17,9 @@ use Rattle.gm_notes.specs.Steps.{Step, Close, refusal, step, run}
 use Rattle.gm_history.specs.History.{Allowed, History}
 use Rattle.gm_history.specs.Causes.{Caused, is_close}
 use Rattle.gm_laws.specs.Between.{RunnersAreOpen}
-use Rattle.gm_laws.specs.Laws.{has_place}
 use Rattle.gm_history.proofs.Keeping.{keeps_notes, kept_if}
 use Rattle.gm_history.proofs.Listeners.{opens}
+use Rattle.gm_laws.proofs.JobLaws.{has_place}
 use Rattle.gm_laws.proofs.Moving.{closes_not, moved, from, not_both, In, placed_rises, wake_each_notes}
 use Rattle.gm_history.proofs.StepsKeep.{step_keeps, taken_or_not, run_history}
 

@@ -21,7 +21,7 @@ use Rattle.gm_notes.specs.Notes.{moment, takes_units}
 use Rattle.gm_notes.specs.Steps.{Step, unless, unless_not_open, step, run}
 use Rattle.gm_history.specs.History.{Allowed, Gets, History}
 use Rattle.gm_history.specs.Causes.{is_one_of, Caused, Ends, AllSaid, asks, is_grab, is_close}
-use Rattle.gm_laws.specs.Laws.{DiscardsTheUnwanted, EndsWithItsWorker, GivesThePick, GrabsGetThePick, SaysNoJobWhereNoneIs}
+use Rattle.gm_laws.specs.Laws.{EndsWithItsWorker, GivesThePick, GrabsGetThePick, SaysNoJobWhereNoneIs}
 use Rattle.gm_laws.specs.Listeners.{AllMayGet, AnswersStayHome}
 use Rattle.gm_history.proofs.Asking.{closing_asks}
 use Rattle.gm_laws.proofs.Moving.{moved, from}
@@ -106,7 +106,7 @@ module _ (k : Settings) (s : Step) (start : Past) (history : History k start.not
       from (moved n m states.Discarded (job_state n older) states.Discarded (n == m) refl e) (λ h. inr (cause, subst (λ x. is_wanted x older ≡ false) (sym h.0) allowed.1)) (λ h. before n h.1)
   thrown_more note older allowed cause before n e = before n e
 
-  pub discards : DiscardsTheUnwanted k start s (step k s start)
+  pub discards : (n : ℕ) → job_state n (step k s start).notes ≡ states.Discarded → ThrownSo n (step k s start).notes
   discards = note_law k s start history (λ l. (n : ℕ) → job_state n l ≡ states.Discarded → ThrownSo n l) (λ note older allowed cause h p. thrown_more note older allowed cause p) (λ n e. inl e)
 
   -- ---- what is said

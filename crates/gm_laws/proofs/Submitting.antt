@@ -7,7 +7,6 @@ use Rattle.std.proofs.lemmas.Bool.{and_parts, or_left}
 use Rattle.std.proofs.lemmas.Bool.Decides.{nat_tests}
 use Rattle.std.proofs.lemmas.List.{append-nil, append_cancel_left}
 use Rattle.gm_packet.specs.declared.kind.Kind.{Kind}
-use Rattle.gm_packet.specs.declared.kind.Kind.TheVariants.{SubmitJob, SubmitJobHigh, SubmitJobLow}
 use Rattle.gm_packet.specs.Kinds.{kind_of}
 use Rattle.gm_packet.specs.Packets.{packet}
 use Rattle.gm_packet.specs.Requests.{Asked, read_as}
@@ -26,17 +25,16 @@ use Rattle.gm_notes.specs.Requests.{packet_of, request, request_if_read}
 use Rattle.gm_notes.specs.Steps.{Step, Packet, Close, unless_not_open, run, step}
 use Rattle.gm_history.specs.History.{Allowed, History}
 use Rattle.gm_history.specs.Causes.{Caused, is_foreground, is_background, is_one_of, asks, closes, JustQueues}
-use Rattle.gm_laws.specs.Laws.{has_place}
 use Rattle.gm_laws.specs.Turns.{One}
 use Rattle.gm_laws.specs.Listeners.{outputs, Queues, Tells, WhoStaysIsTold}
 use Rattle.gm_history.specs.Hearing.{listens}
-use Rattle.gm_laws.proofs.JobLaws.{unmade, live_place, place_still}
+use Rattle.gm_laws.proofs.JobLaws.{has_place, unmade, live_place, place_still}
 use Rattle.gm_laws.proofs.Moving.{from, both_not}
 use Rattle.gm_laws.proofs.Endings.{all_told}
 use Rattle.gm_history.proofs.Caused.{note_law}
 use Rattle.gm_laws.proofs.StepLaws.{discards}
 use Rattle.gm_history.proofs.Asking.{kind_read}
-use Rattle.gm_laws.proofs.Created.{Answered, request_answered}
+use Rattle.gm_laws.proofs.Created.{foreground_apart, Answered, request_answered}
 use Rattle.gm_history.proofs.StepsKeep.{taken_or_not, run_history}
 use Rattle.gm_notes.proofs.Numbers.{same_number}
 use Rattle.std.proofs.lemmas.Bool.{eqb-true}
@@ -63,12 +61,6 @@ one_head x y e = cc
 -- job n is live, and slot c listens to it
 abbrev Listens : ℕ → ℕ → List Note → Type 0
 Listens c n l = (is_live (job_state n l) ≡ true) × (0 < listens c n l)
-
-foreground_apart : (kind : Kind) → is_foreground kind ≡ true → is_background kind ≡ true → ⊥
-foreground_apart SubmitJob e b = let bad : ⊥ = cc in bad
-foreground_apart SubmitJobHigh e b = let bad : ⊥ = cc in bad
-foreground_apart SubmitJobLow e b = let bad : ⊥ = cc in bad
-foreground_apart kind e b = let bad : ⊥ = cc in bad
 
 module _ (k : Settings) (c : ℕ) (start : Past) where
   -- where just JOB_CREATED was queued, the job that it names is live, and the slot listens to it

@@ -46,7 +46,7 @@ of_both : (f g : List ℕ) (o : Option Job) → is_job_of f o ≡ true → is_jo
 of_both f g None e h = absurd cc
 of_both f g (Some what) e h = sym ((bytes_eq-Decides what.function f).0 e) ∙ (bytes_eq-Decides what.function g).0 h
 
-function_is : (f : List ℕ) (o : Option Job) → is_job_of f o ≡ true → option_map (λ (what : Job). what.function) o ≡ Some f
+pub function_is : (f : List ℕ) (o : Option Job) → is_job_of f o ≡ true → option_map (λ (what : Job). what.function) o ≡ Some f
 function_is f None e = absurd cc
 function_is f (Some what) e = ap Some ((bytes_eq-Decides what.function f).0 e)
 
@@ -93,16 +93,16 @@ picks g (ability ∷ all) l found e of_g =
 
 module _ (k : Settings) (c : ℕ) (start : Past) where
   -- nothing was given out
-  abbrev Idle : List Note → Type 0
+  abbrev pub Idle : List Note → Type 0
   Idle l = (last_function c l ≡ last_function c start.notes) × ((n : ℕ) → job_state n l ≡ job_state n start.notes) × ((n : ℕ) → job n l ≡ job n start.notes)
 
   -- the pick was given to the slot
-  abbrev GotPick : List Note → Type 0
+  abbrev pub GotPick : List Note → Type 0
   GotPick l =
       (found : Pick) × (pick k c start.notes ≡ Some found) × (job_state found.job l ≡ states.Running c)
       × (last_function c l ≡ option_map (λ (what : Job). what.function) (job found.job start.notes))
 
-  abbrev Grabbed : List Note → Type 0
+  abbrev pub Grabbed : List Note → Type 0
   Grabbed l = Idle l ⊎ GotPick l
 
   given_out : (uniq : Bool) (o : Option Pick) (past : Past) → pick k c start.notes ≡ o → Idle past.notes → Grabbed (give_out k c uniq o past).notes
@@ -134,7 +134,7 @@ module _ (k : Settings) (c : ℕ) (start : Past) where
       taken_or_not (λ past. Grabbed past.notes) (refusal k (Packet c number bytes) start) (add k (Packet c number bytes) start) start
       (λ taken. packet_of_kinds Grabbed k c is_grab bytes start idle request_grabbed (kind_of number) e) idle
 
-step_grabbed : (k : Settings) (c : ℕ) (start : Past) (s : Step) → asks is_grab c s ≡ true → Grabbed k c start (step k s start).notes
+pub step_grabbed : (k : Settings) (c : ℕ) (start : Past) (s : Step) → asks is_grab c s ≡ true → Grabbed k c start (step k s start).notes
 step_grabbed k c start (Packet d number bytes) e =
     let parts = and_parts (c == d) (is_one_of is_grab (kind_of number)) e in
     subst (λ x. Grabbed k c start (step k (Packet x number bytes) start).notes) (eqb-true c d parts.0) (packet_grabbed k c start number bytes parts.1)
@@ -148,11 +148,11 @@ step_grabbed k c start (Withdrew d) e = absurd cc
 step_grabbed k c start (Drain d) e = absurd cc
 
 -- what is given is the pick, and its function is the last
-record Given (k : Settings) (c : ℕ) (g : List ℕ) (before after : List Note) : Type 0 where
-  found : Pick
-  is : pick k c before ≡ Some found
-  function : is_job_of g (job found.job before) ≡ true
-  last : last_function c after ≡ Some g
+pub record Given (k : Settings) (c : ℕ) (g : List ℕ) (before after : List Note) : Type 0 where
+  pub found : Pick
+  pub is : pick k c before ≡ Some found
+  pub function : is_job_of g (job found.job before) ≡ true
+  pub last : last_function c after ≡ Some g
 
 given_last : (k : Settings) (c : ℕ) (g : List ℕ) (start : Past) (l : List Note) (n : ℕ) → is_job_of g (job n start.notes) ≡ true → job_state n start.notes ≡ states.Waiting → job_state n l ≡ states.Running c
     → Gets k c n start.notes → Grabbed k c start l → Given k c g start.notes l
@@ -162,7 +162,7 @@ given_last k c g start l n of_g waits runs gets (inr got) =
     let of_found = subst (λ x. is_job_of g (job x start.notes) ≡ true) (sym (ap (λ (p : Pick). p.job) same ∙ gets.2)) of_g in
     record { found = got.0; is = got.1; function = of_found; last = got.3 ∙ function_is g (job got.0.job start.notes) of_found }
 
-given : (k : Settings) (c : ℕ) (g : List ℕ) (steps : List Step) (s : Step) → Gives k c g steps s → Given k c g (run k steps).notes (run k (s ∷ steps)).notes
+pub given : (k : Settings) (c : ℕ) (g : List ℕ) (steps : List Step) (s : Step) → Gives k c g steps s → Given k c g (run k steps).notes (run k (s ∷ steps)).notes
 given k c g steps s gave =
     let start = run k steps in
     from (gives k s start (run_history k steps) gave.0 c gave.3) (λ e. let bad : states.Waiting ≡ states.Running c = sym gave.2 ∙ e in absurd cc)
@@ -171,7 +171,7 @@ given k c g steps s gave =
 -- ---- what else a step does to whose turn it is
 
 -- the slot's last function is as it was, or it was opened
-abbrev Passed : ℕ → Step → List Note → List Note → Type 0
+abbrev pub Passed : ℕ → Step → List Note → List Note → Type 0
 Passed c s before l = (last_function c l ≡ last_function c before) ⊎ (((addr : List ℕ) × (s ≡ Open addr)) × (abilities c l ≡ []))
 
 module _ (c : ℕ) (s : Step) (before : List Note) where
@@ -199,7 +199,7 @@ module _ (c : ℕ) (s : Step) (before : List Note) where
   none_or true all e = refl
   none_or false all e = e
 
-  passed_more : (k : Settings) → asks is_grab c s ≡ false → (note : Note) (older : List Note) → Caused k before s note older → Passed c s before older → Passed c s before (note ∷ older)
+  pub passed_more : (k : Settings) → asks is_grab c s ≡ false → (note : Note) (older : List Note) → Caused k before s note older → Passed c s before older → Passed c s before (note ∷ older)
   passed_more k other (notes.Opened d addr) older cause p = passed_opened d addr older (c == d) refl cause p
   passed_more k other (notes.Assigned n d late) older cause p = passed_assigned n d late older (c == d) refl other cause.0 p
   passed_more k other (notes.Closed d) older cause p = passed_less (notes.Closed d) older refl (none_or (c == d) (abilities c older)) p

@@ -30,7 +30,8 @@ AbilitiesCome k before s after = (c : ℕ) (asked : Asked) (f : List ℕ) → ta
     ((seconds : ℕ) → Enables asked f seconds → (is_able_within c f seconds after.notes ≡ true) ⊎ IsRejected k c asked before after)
     × (Disables asked f → (is_able c f after.notes ≡ false) ⊎ IsRejected k c asked before after)
 
--- an ability comes only by asking for it, and goes only by asking for that, for the function with other seconds, or with the slot
+-- an ability comes only by asking for it, and goes only by asking for that, for the function with other seconds, or
+-- with the slot
 abbrev pub AbilitiesStay : Past → Step → Past → Type 0
 AbilitiesStay before s after = (c : ℕ) (f : List ℕ) (seconds : ℕ) →
     (is_able_within c f seconds after.notes ≡ true →

@@ -9,7 +9,8 @@ use Rattle.gm_notes.specs.Past.{Past}
 use Rattle.gm_notes.specs.Steps.{Step, Line, Tick, refusal}
 use Rattle.gm_history.specs.Causes.{Commands}
 
--- a tick is never refused, and brings the server to its moment, unless that has passed already; nothing else changes the moment
+-- a tick is never refused, and brings the server to its moment, unless that has passed already; nothing else changes
+-- the moment
 abbrev pub TicksAreTaken : Settings → Past → Step → Past → Type 0
 TicksAreTaken k before s after =
     ((now : ℕ) → s ≡ Tick now → (refusal k s before ≡ None) × (moment after.notes ≡ max now (moment before.notes)))

@@ -14,8 +14,8 @@ abbrev pub ListensNoMore : ℕ → Past → Past → Type 0
 ListensNoMore c before after = (n d : ℕ) →
     (listens d n after.notes ≡ (if c == d then 0 else listens d n before.notes)) × (is_kept n after.notes ≡ is_kept n before.notes)
 
--- a job that ran there waits again or is lost if it is wanted still; one that waited goes on waiting; and either is discarded if nobody
--- wants it. What runs at another slot goes on.
+-- a job that ran there waits again or is lost if it is wanted still; one that waited goes on waiting; and either is
+-- discarded if nobody wants it. What runs at another slot goes on.
 abbrev pub LeavesItsJobs : ℕ → Past → Past → Type 0
 LeavesItsJobs c before after = (n : ℕ) →
     (job_state n before.notes ≡ states.Running c → is_wanted n after.notes ≡ true → (job_state n after.notes ≡ states.Waiting) ⊎ (job_state n after.notes ≡ states.Lost))

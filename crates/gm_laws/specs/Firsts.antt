@@ -22,8 +22,8 @@ HasNoneWaitingOf p notes f = (n : ℕ) (what : Job) →
 abbrev pub functions_of : ℕ → List Note → List (List ℕ)
 functions_of c notes = map (λ ability. ability.function) (abilities c notes)
 
--- without round-robin the job that a slot is given is of its first function for which one waits, and with as_gearmand of the first for
--- which one of its priority waits
+-- without round-robin the job that a slot is given is of its first function for which one waits, and with as_gearmand
+-- of the first for which one of its priority waits
 abbrev pub GivesOfTheFirst : Settings → Past → Past → Type 0
 GivesOfTheFirst k before after = (n c : ℕ) (what : Job) → k.round_robin ≡ false →
     job_state n before.notes ≡ states.Waiting → job_state n after.notes ≡ states.Running c → job n before.notes ≡ Some what →

@@ -1,5 +1,5 @@
--- Worked rows of jobs: what the definitions give for whole runs. Each is a statement, which a function of the same name in
--- src/job_rows.rt proves.
+-- Worked rows of jobs: what the definitions give for whole runs. Each is a statement, which a function of the same name
+-- in src/job_rows.rt proves.
 use Rattle.std.specs.Prelude.{true, false, [], ◌∷◌, ◌++◌, replicate, codes}
 use Rattle.gm_notes.specs.Steps.{Close}
 use Rattle.gm_packet.specs.Answers.{job_assign_uniq}

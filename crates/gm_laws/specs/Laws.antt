@@ -1,14 +1,15 @@
 -- What holds after any steps, under any settings.
-use Rattle.std.specs.Prelude.{◌≡◌, ℕ, ◌+◌, ◌<◌, ◌≤◌, ◌^◌, ◌==◌, ◌⊎◌, Bool, true, false, not, if◌then◌else◌, List, [], ◌∷◌}
+use Rattle.std.specs.Prelude.{◌≡◌, ℕ, ◌+◌, ◌<◌, ◌≤◌, ◌^◌, ◌==◌, ◌⊎◌, Bool, true, false, not, List, [], ◌∷◌}
 use Rattle.std.specs.Prelude.{◌++◌, length, Some, None}
 use Rattle.std.specs.List.{list_any, list_all}
 use Rattle.gm_packet.specs.Kinds.{kind_of}
 use Rattle.gm_notes.specs.declared.note.Note.{Note}
 use Rattle.gm_notes.specs.Settings.{Settings}
 use Rattle.gm_notes.specs.Notes.{is_open, takes_units, mode}
-use Rattle.gm_notes.specs.Flow.{Flow, sent, waiting}
-use Rattle.gm_notes.specs.Jobs.{pick, job_state, is_wanted, is_live_named, joins, made, deadline}
+use Rattle.gm_notes.specs.Flow.{Flow, waiting}
+use Rattle.gm_notes.specs.Jobs.{pick, job_state, is_live_named, joins, made, deadline}
 use Rattle.gm_notes.specs.declared.event.UnitFault.{UnitFault}
+use Rattle.gm_notes.specs.declared.states.Mode.{Mode}
 use Rattle.gm_notes.specs.declared.states.Mode.TheVariants.{Running, Graceful, Stopped}
 use Rattle.gm_admin.specs.Commands.{Shutdown}
 use Rattle.gm_notes.specs.declared.states.Pick.{Pick}
@@ -17,29 +18,22 @@ use Rattle.gm_notes.specs.JobStates as states
 use Rattle.gm_notes.specs.Steps.{Step, Open, Packet, Line, Fault, Close, Took, Withdrew, Drain, refusal, done, step, run}
 use Rattle.gm_notes.specs.Past.{Past}
 use Rattle.gm_notes.specs.Servers.{owes, is_closing as has_shut}
-use Rattle.gm_history.specs.Laws.{drained, is_kept_up, IsPrefix}
+use Rattle.gm_history.specs.Laws.{drained, IsPrefix}
 use Rattle.gm_history.specs.History.{Gets, progress}
-use Rattle.gm_history.specs.Causes.{Ends, Commands, AllSaid, asks, is_grab, is_sleeping, is_one_of, is_close, closes}
+use Rattle.gm_history.specs.Causes.{Ends, Commands, AllSaid, asks, is_grab, is_sleeping, is_one_of, closes}
 
 -- the numbers made are the first and its successors, each once, none above the greatest of 64 bits; the newest first
 abbrev pub AreConsecutive : Settings → List ℕ → Type 0
 AreConsecutive k [] = Unit {0}
 AreConsecutive k (n ∷ older) = (n ≡ k.first_job + length older) × (n < 2 ^ 64) × AreConsecutive k older
 
--- an open slot is one of those that there are
-abbrev pub AreSlots : Settings → List Note → Type 0
-AreSlots k notes = (c : ℕ) → is_open c notes ≡ true → c < k.slots
-
--- a job has a place exactly where it was made
+-- the job was made
 abbrev pub was_made : ℕ → List Note → Bool
 was_made n notes = list_any (λ m. m == n) (made notes)
 
-abbrev pub has_place : JobState → Bool
-has_place states.Unmade = false
-has_place other = true
-
-abbrev pub HavePlaces : Settings → List Note → Type 0
-HavePlaces k notes = (n : ℕ) → has_place (job_state n notes) ≡ was_made n notes
+-- the function is one of these
+abbrev pub IsAmong : List ℕ → List (List ℕ) → Type 0
+IsAmong f all = (before after : List (List ℕ)) × (all ≡ before ++ f ∷ after)
 
 -- live jobs of one function and one id that joins are one job
 abbrev pub AreOne : Settings → List Note → Type 0
@@ -55,19 +49,10 @@ abbrev pub StayGone : Type 0
 StayGone = (k : Settings) (later steps : List Step) (n : ℕ) →
     is_gone (job_state n (run k steps).notes) ≡ true → job_state n (run k (later ++ steps)).notes ≡ job_state n (run k steps).notes
 
--- what was drained, followed by what waits, is what was sent
-abbrev pub AllIsSent : Type 0
-AllIsSent = (flow : List Flow) (c : ℕ) → is_kept_up c flow ≡ true → sent c flow ≡ drained c flow ++ waiting c flow
-
 -- ---- what a step does
 
--- a job is discarded only in a closing, and only one that isn't kept and that nobody listens to
-abbrev pub DiscardsTheUnwanted : Settings → Past → Step → Past → Type 0
-DiscardsTheUnwanted k before s after = (n : ℕ) → job_state n after.notes ≡ states.Discarded →
-    (job_state n before.notes ≡ states.Discarded) ⊎ ((is_close s ≡ true) × (is_wanted n after.notes ≡ false))
-
--- a job ends only with WORK_COMPLETE or WORK_FAIL with its handle, of the slot where it runs, and with as_gearmand with WORK_EXCEPTION as
--- well, or in a tick that reaches its deadline
+-- a job ends only with WORK_COMPLETE or WORK_FAIL with its handle, of the slot where it runs, and with as_gearmand with
+-- WORK_EXCEPTION as well, or in a tick that reaches its deadline
 abbrev pub EndsWithItsWorker : Settings → Past → Step → Past → Type 0
 EndsWithItsWorker k before s after = (n : ℕ) → job_state n after.notes ≡ states.Ended → (job_state n before.notes ≡ states.Ended) ⊎ Ends k before.notes s n
 
@@ -76,8 +61,8 @@ abbrev pub is_unheard : Step → List Note → Bool
 is_unheard (Packet c number bytes) notes = not (takes_units c notes)
 is_unheard other notes = false
 
--- the converse: what would end a job ends it, unless it is a packet of a slot that takes no units; and while a job runs at a slot, its
--- deadline stays as it is
+-- the converse: what would end a job ends it, unless it is a packet of a slot that takes no units; and while a job runs
+-- at a slot, its deadline stays as it is
 abbrev pub WorkersAndClocksEndJobs : Settings → Past → Step → Past → Type 0
 WorkersAndClocksEndJobs k before s after =
     ((n : ℕ) → is_unheard s before.notes ≡ false → Ends k before.notes s n → job_state n after.notes ≡ states.Ended)
@@ -111,12 +96,20 @@ OnlyDrainsTake k before s after =
 
 -- ---- how the server goes on
 
--- a mode never goes back; `shutdown graceful` of a slot that takes units makes it Graceful at least, and `shutdown` makes it Stopped
+-- what a `shutdown` line makes of a mode: one that isn't graceful stops the server, and a graceful one changes only a
+-- running server
+abbrev pub after_shutdown : Bool → Mode → Mode
+after_shutdown false mode = Stopped
+after_shutdown true Running = Graceful
+after_shutdown true Graceful = Graceful
+after_shutdown true Stopped = Stopped
+
+-- a mode never goes back, and a `shutdown` line of a slot that takes units does what it says
 abbrev pub ModesComeInOrder : Past → Step → Past → Type 0
 ModesComeInOrder before s after =
     (progress (mode before.notes) ≤ progress (mode after.notes))
     × ((c : ℕ) (line : List ℕ) (graceful : Bool) → s ≡ Line c line → Commands s (Shutdown graceful) → takes_units c before.notes ≡ true →
-    (if graceful then progress Graceful else progress Stopped) ≤ progress (mode after.notes))
+    mode after.notes ≡ after_shutdown graceful (mode before.notes))
 
 -- only a running server opens connections, and it opens one if a slot is free
 abbrev pub OpensWhileItRuns : Settings → Past → Step → Past → Type 0
@@ -157,8 +150,8 @@ abbrev pub AllGoAlike : Settings → List Step → List Step → List Step → T
 AllGoAlike k [] these those = Unit {0}
 AllGoAlike k (s ∷ newer) these those = GoesAlike k s (run k (newer ++ these)) (run k (newer ++ those)) × AllGoAlike k newer these those
 
--- what a server is asked of either past it answers alike: which slots are owed a NOOP, which are shut, whether it goes on,
--- where jobs are, and which bytes wait
+-- what a server is asked of either past it answers alike: which slots are owed a NOOP, which are shut, whether it goes
+-- on, where jobs are, and which bytes wait
 abbrev pub TellAlike : Past → Past → Type 0
 TellAlike a b =
     ((c : ℕ) → owes c a ≡ owes c b) × ((c : ℕ) → has_shut c a ≡ has_shut c b) × (mode a.notes ≡ mode b.notes)

@@ -96,7 +96,7 @@ LimitLines =
     Plays four_slots (
     connect ∷ Line 0 (codes "maxqueue " ++ replicate 513 97) ∷ Line 0 (codes "maxqueue " ++ replicate 512 97)
     ∷ Line 0 (codes "maxqueue a" ++ 0 ∷ []) ∷ says 0 "maxqueue f 1" ∷ submit_job 0 "f" "a" "1" ∷ submit_job 0 "f" "b" "2"
-    ∷ says 0 "maxqueue f -7" ∷ submit_job 0 "f" "b" "2" ∷ says 0 "maxqueue f 2" ∷ says 0 "maxqueue f" ∷ submit_job 0 "f" "c" "3"
+    ∷ says 0 "maxqueue f -1" ∷ submit_job 0 "f" "b" "2" ∷ says 0 "maxqueue f 2" ∷ says 0 "maxqueue f" ∷ submit_job 0 "f" "c" "3"
     ∷ []) (
     line 0 "ERR bad_function" ∷ line 0 "OK" ∷ line 0 "ERR bad_function" ∷ line 0 "OK" ∷ created 0 "H:gmd:1"
     ∷ error 0 "queue_full" "queue full" ∷ line 0 "OK" ∷ created 0 "H:gmd:2" ∷ line 0 "OK" ∷ line 0 "OK" ∷ created 0 "H:gmd:3"
@@ -153,8 +153,8 @@ RefusalNumbers =
     × (map unit_fault_number (BadMagic ∷ PacketTooLarge ∷ LineTooLong ∷ []) ≡ 3 ∷ 4 ∷ 5 ∷ [])
     × (map config_error_number (BadName ∷ BadNumber ∷ BadSlots ∷ BadFunctions ∷ []) ≡ 17 ∷ 18 ∷ 19 ∷ 20 ∷ [])
 
--- valid settings: names of 1 to 40 letters, digits, dots and hyphens; first numbers from 1; 1 to 1,024 slots; 1 to 65,536
--- functions
+-- valid settings: names of 1 to 40 letters, digits, dots and hyphens; first numbers from 1; 1 to 1,024 slots; 1 to
+-- 65,536 functions
 abbrev pub SettingsInRange : Type 0
 SettingsInRange =
     (config_fault (settings 1 1024 65536) ≡ None)

@@ -80,7 +80,8 @@ AdminTellsTheTruth k before s after =
 
 -- ---- what a connection is called
 
--- a connection gets the least slot that is free, has the address from which it was opened, and no id and no functions at first
+-- a connection gets the least slot that is free, has the address from which it was opened, and no id and no functions
+-- at first
 abbrev pub OpensAs : Past → Step → Past → Type 0
 OpensAs before s after = (c : ℕ) → is_open c before.notes ≡ false → is_open c after.notes ≡ true →
     ((d : ℕ) → d < c → is_open d before.notes ≡ true) × (s ≡ Open (addr c after.notes)) × (id c after.notes ≡ []) × (functions_of c after.notes ≡ [])

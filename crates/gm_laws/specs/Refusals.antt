@@ -1,5 +1,5 @@
 -- Why requests and text lines are refused, and how. Each reason counts only where none of those above it does.
-use Rattle.std.specs.Prelude.{◌≡◌, ◌⊎◌, ℕ, ◌+◌, ◌<◌, ◌≤◌, ◌^◌, Bool, true, false, ◌||◌, ◌&&◌, ◌==◌, List, [], ◌∷◌, ◌++◌, length, codes, Result, Ok, Err}
+use Rattle.std.specs.Prelude.{◌≡◌, ◌⊎◌, ℕ, ◌+◌, ◌<◌, ◌≤◌, ◌^◌, Bool, true, false, ◌||◌, ◌&&◌, ◌==◌, List, [], ◌∷◌, ◌++◌, length, map, codes, if◌then◌else◌, Result, Ok, Err}
 use Rattle.std.specs.List.{list_any}
 use Rattle.gm_packet.specs.declared.kind.Kind.{Kind}
 use Rattle.gm_packet.specs.declared.kind.Kind.TheVariants.{CantDo, WorkStatus, WorkComplete, WorkFail, WorkException, OptionReq, WorkData}
@@ -29,9 +29,13 @@ use Rattle.gm_notes.specs.Steps.{Step, Packet, Line, Fault}
 use Rattle.gm_history.specs.Causes.{PacketAsks, is_enabling, is_submission, JustQueues}
 use Rattle.gm_laws.specs.Submitted.{JoinsNone, IsLong, IsBadName}
 
--- an ERROR with this code is the answer, and nothing happened
+-- a code with a space (32) for each underscore (95)
+abbrev pub in_words : List ℕ → List ℕ
+in_words code = map (λ b. if b == 95 then 32 else b) code
+
+-- an ERROR with this code and the same words with spaces is the answer, and nothing happened
 abbrev pub IsError : ℕ → List ℕ → Past → Past → Type 0
-IsError c code before after = (text : List ℕ) × JustQueues c (error code text) before after × (after.notes ≡ before.notes)
+IsError c code before after = JustQueues c (error code (in_words code)) before after × (after.notes ≡ before.notes)
 
 -- an `ERR` line is the answer, and nothing happened
 abbrev pub IsErr : ℕ → AdminError → Past → Past → Type 0
@@ -108,14 +112,14 @@ IsErroneous k (Ok command) before error = ⊥
 
 -- what a fault is answered with
 abbrev pub IsToldOf : ℕ → UnitFault → Past → Past → Type 0
-IsToldOf c BadMagic before after = (text : List ℕ) × JustQueues c (error (codes "bad_magic") text) before after
-IsToldOf c PacketTooLarge before after = (text : List ℕ) × JustQueues c (error (codes "packet_too_large") text) before after
+IsToldOf c BadMagic before after = JustQueues c (error (codes "bad_magic") (codes "bad magic")) before after
+IsToldOf c PacketTooLarge before after = JustQueues c (error (codes "packet_too_large") (codes "packet too large")) before after
 IsToldOf c LineTooLong before after = after.flow ≡ Queued c (error_text errors.LineTooLong) ∷ before.flow
 
 -- ---- the law
 
--- the packet types that may answer a request or be passed on for it, but for ERROR; with as_gearmand an exception is passed on as WORK_FAIL
--- to slots that get no exceptions
+-- the packet types that may answer a request or be passed on for it, but for ERROR; with as_gearmand an exception is
+-- passed on as WORK_FAIL to slots that get no exceptions
 abbrev pub answers : Settings → Kind → ℕ → Bool
 answers k GrabJob type = type == 10 || type == 11
 answers k GrabJobUniq type = type == 10 || type == 31
@@ -135,8 +139,8 @@ AllAnswer k kind (other ∷ newer) = ⊥
 abbrev pub JustAnswers : Settings → Kind → Past → Past → Type 0
 JustAnswers k kind before after = (newer : List Flow) × (after.flow ≡ newer ++ before.flow) × AllAnswer k kind newer
 
--- A packet or a line of a slot that takes units, for whose refusal there is a reason, is refused with its code, and a fault is answered with
--- what it is. A request for whose refusal there is none gets no ERROR.
+-- A packet or a line of a slot that takes units, for whose refusal there is a reason, is refused with its code, and a
+-- fault is answered with what it is. A request for whose refusal there is none gets no ERROR.
 abbrev pub RefusalsHaveTheirReason : Settings → Past → Step → Past → Type 0
 RefusalsHaveTheirReason k before s after = (c : ℕ) → takes_units c before.notes ≡ true →
     ((number : ℕ) (bytes code : List ℕ) → s ≡ Packet c number bytes → IsUnserved k c (request_of number bytes) before code → IsError c code before after)

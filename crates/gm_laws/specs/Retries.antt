@@ -38,16 +38,8 @@ loses n note = false
 abbrev pub NoJobIsHandedOutMoreOften : Settings → List Note → Type 0
 NoJobIsHandedOutMoreOften k notes = 0 < k.retries → (n : ℕ) → times (hands_out n) notes ≤ k.retries
 
--- a job is lost once at most
-abbrev pub NoJobIsLostTwice : Settings → List Note → Type 0
-NoJobIsLostTwice k notes = (n : ℕ) → times (loses n) notes ≤ 1
-
--- without a limit none is
-abbrev pub NoneIsLostWithoutALimit : Settings → List Note → Type 0
-NoneIsLostWithoutALimit k notes = k.retries ≡ 0 → (n : ℕ) → times (loses n) notes ≡ 0
-
--- when job n was lost, after these notes: it ran at a slot, it had been handed out as often as the limit says and had come
--- back each time but the last, and it was wanted
+-- when job n was lost, after these notes: it ran at a slot, it had been handed out as often as the limit says and had
+-- come back each time but the last, and it was wanted
 abbrev pub IsLostSo : Settings → List Note → ℕ → Type 0
 IsLostSo k older n =
     (0 < k.retries) × (runs_at_a_slot (job_state n older) ≡ true) × (times (hands_out n) older ≡ k.retries)

@@ -22,7 +22,8 @@ rouses c (Took d) = c == d
 rouses c (Withdrew d) = c == d
 rouses c other = false
 
--- a slot begins to rest only with PRE_SLEEP; its grab ends its sleep, and with its NOOP's taking or withdrawal it is awake
+-- a slot begins to rest only with PRE_SLEEP; its grab ends its sleep, and with its NOOP's taking or withdrawal it is
+-- awake
 abbrev pub SleepersAskedForIt : Settings → Past → Step → Past → Type 0
 SleepersAskedForIt k before s after =
     ((c : ℕ) → Rests c after → Rests c before ⊎ (asks is_sleeping c s ≡ true))

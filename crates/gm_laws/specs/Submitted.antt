@@ -20,7 +20,8 @@ use Rattle.gm_laws.specs.Turns.{One}
 
 -- ---- the answer to a submission
 
--- the job waits or runs already, and has the function and the unique id that are asked for; no id and a dash join nothing
+-- the job waits or runs already, and has the function and the unique id that are asked for; no id and a dash join
+-- nothing
 abbrev pub IsJoined : Asked → ℕ → Past → Type 0
 IsJoined asked n before =
     (what : Job) × (job n before.notes ≡ Some what) × (is_live (job_state n before.notes) ≡ true)
@@ -33,6 +34,10 @@ JoinsNone asked before = (n : ℕ) → IsJoined asked n before → ⊥
 abbrev pub IsNew : Asked → ℕ → Past → Past → Type 0
 IsNew asked n before after = (what : Job) × (job n after.notes ≡ Some what) × Submits asked what × (job n before.notes ≡ None) × JoinsNone asked before
 
+-- what is asked joins the job, or makes it
+abbrev pub JoinsOrMakes : Asked → ℕ → Past → Past → Type 0
+JoinsOrMakes asked n before after = IsJoined asked n before ⊎ IsNew asked n before after
+
 -- after a submission in the background the job is kept, and after one in the foreground the slot listens once more
 abbrev pub KeepsOrListens : Kind → ℕ → ℕ → Past → Past → Type 0
 KeepsOrListens kind c n before after =
@@ -43,9 +48,10 @@ KeepsOrListens kind c n before after =
 abbrev pub IsCreated : Settings → ℕ → Asked → Past → Past → Type 0
 IsCreated k c asked before after =
     (n : ℕ) × JustQueues c (job_created (handle k n)) before after × (is_live (job_state n after.notes) ≡ true)
-    × (IsJoined asked n before ⊎ IsNew asked n before after) × KeepsOrListens asked.kind c n before after
+    × JoinsOrMakes asked n before after × KeepsOrListens asked.kind c n before after
 
--- there is no job to join, and the function is one too many, or has as many jobs as its limit says, or no number is left
+-- there is no job to join, and the function is one too many, or has as many jobs as its limit says, or no number is
+-- left
 abbrev pub HasNoRoom : Settings → Asked → Past → List ℕ → Type 0
 HasNoRoom k asked before code =
     JoinsNone asked before
@@ -93,7 +99,8 @@ GivesTheJob k before s after = (n c : ℕ) → job_state n before.notes ≡ stat
     (what : Job) × (asked : Asked) × (answer : Answer)
     × (job n before.notes ≡ Some what) × PacketAsks c s asked × (grab_answer k n what asked.kind ≡ Some answer) × JustQueues c answer before after
 
--- JOB_ASSIGN and JOB_ASSIGN_UNIQ are queued to a slot only in the step that gives it a job that waited, once, as what that job is
+-- JOB_ASSIGN and JOB_ASSIGN_UNIQ are queued to a slot only in the step that gives it a job that waited, once, as what
+-- that job is
 abbrev pub OneAssignmentOneJob : Settings → Past → Step → Past → Type 0
 OneAssignmentOneJob k before s after = (c : ℕ) (newer : List (List ℕ)) (answer : Answer) →
     Queues c newer before after → IsAssignment answer → 0 < copies (answer_packet answer) newer →

@@ -1,10 +1,14 @@
 -- With round-robin on, the functions of a worker take turns.
-use Rattle.std.specs.Prelude.{◌≡◌, ◌⊎◌, ℕ, true, false, List, [], ◌∷◌, ◌++◌}
+use Rattle.std.specs.Prelude.{◌≡◌, ◌⊎◌, ℕ, true, false, List, [], ◌∷◌, ◌++◌, Some}
+use Rattle.std.specs.List.{All}
 use Rattle.std.specs.Str.{bytes_eq}
 use Rattle.gm_notes.specs.Settings.{Settings}
-use Rattle.gm_notes.specs.Jobs.{job_state, job, is_job_of, abilities, is_able, waiting_for, is_empty}
+use Rattle.gm_notes.specs.Notes.{is_open}
+use Rattle.gm_notes.specs.Jobs.{Job, job_state, job, is_job_of, abilities, is_able, waiting_for, is_empty}
 use Rattle.gm_notes.specs.JobStates as states
 use Rattle.gm_notes.specs.Steps.{Step, run}
+use Rattle.gm_laws.specs.Firsts.{HasNoneWaiting, HasNoneWaitingOf, functions_of}
+use Rattle.gm_laws.specs.Laws.{IsAmong}
 
 -- ---- what a step does after earlier ones
 
@@ -34,9 +38,9 @@ abbrev pub One : (List Step → Step → Type 0) → List Step → List Step →
 One P [] earlier = ⊥
 One P (s ∷ newer) earlier = P (newer ++ earlier) s ⊎ One P newer earlier
 
--- between two steps that give slot c a job of function f, one of the steps gives it a job of h, another of its functions:
--- if its abilities stay as they are, and a job of h waits each time that it is given a job; with as_gearmand priorities go before
--- turns
+-- between two steps that give slot c a job of function f, one of the steps gives it a job of h, another of its
+-- functions: if its abilities stay as they are, and a job of h waits each time that it is given a job; with as_gearmand
+-- priorities go before turns
 abbrev pub TurnsAreFair : Type 0
 TurnsAreFair = (k : Settings) (c : ℕ) (f h : List ℕ) (before between : List Step) (first again : Step) →
     let start = first ∷ before in
@@ -46,3 +50,32 @@ TurnsAreFair = (k : Settings) (c : ℕ) (f h : List ℕ) (before between : List 
     Each (LeavesAbilities k c) between start →
     Each (FindsWaiting k c h) (again ∷ between) start →
     One (Gives k c h) between start
+
+-- ---- in which order
+
+-- the step opens slot c
+abbrev pub Opens : Settings → ℕ → List Step → Step → Type 0
+Opens k c earlier s = (is_open c (run k earlier).notes ≡ false) × (is_open c (run k (s ∷ earlier)).notes ≡ true)
+
+-- of the jobs that slot c was given since it was opened the last is of function f
+abbrev pub WasGivenLast : Settings → ℕ → List Step → List ℕ → Type 0
+WasGivenLast k c [] f = ⊥
+WasGivenLast k c (s ∷ earlier) f =
+    Gives k c f earlier s ⊎ (((g : List ℕ) → Gives k c g earlier s → ⊥) × (Opens k c earlier s → ⊥) × WasGivenLast k c earlier f)
+
+-- the functions of slot c, each in its turn: those behind the function of the job that it was given last, then those
+-- before it, and then it; or all as they were added, where it can't do that one, or was given none
+abbrev pub AreInTurn : Settings → ℕ → List Step → List (List ℕ) → Type 0
+AreInTurn k c steps turns =
+    ((g : List ℕ) × (before after : List (List ℕ))
+    × WasGivenLast k c steps g × (functions_of c (run k steps).notes ≡ before ++ g ∷ after) × (turns ≡ after ++ (before ++ g ∷ [])))
+    ⊎ (((g : List ℕ) → WasGivenLast k c steps g → IsAmong g (functions_of c (run k steps).notes) → ⊥) × (turns ≡ functions_of c (run k steps).notes))
+
+-- with round-robin the job that a slot is given is of the first function, in turn, for which one waits, and with
+-- as_gearmand of the first for which one of its priority waits
+abbrev pub TurnsGoRound : Type 0
+TurnsGoRound = (k : Settings) (c n : ℕ) (what : Job) (steps : List Step) (s : Step) → k.round_robin ≡ true →
+    job_state n (run k steps).notes ≡ states.Waiting → job_state n (run k (s ∷ steps)).notes ≡ states.Running c → job n (run k steps).notes ≡ Some what →
+    (earlier later : List (List ℕ)) × AreInTurn k c steps (earlier ++ what.function ∷ later)
+    × (k.as_gearmand ≡ false → All (HasNoneWaiting (run k steps).notes) earlier)
+    × (k.as_gearmand ≡ true → All (HasNoneWaitingOf what.priority (run k steps).notes) earlier)

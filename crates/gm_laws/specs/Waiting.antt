@@ -1,6 +1,6 @@
 -- Which of the jobs that wait a grab gets, and which workers are woken for them.
 use Rattle.std.specs.Prelude.{◌≡◌, ◌⊎◌, ℕ, zero, suc, ◌+◌, ◌-◌, ◌^◌, ◌<◌, min, true, false, ◌==◌, if◌then◌else◌}
-use Rattle.std.specs.Prelude.{List, [], ◌∷◌, length, Option, Some, None}
+use Rattle.std.specs.Prelude.{List, [], ◌∷◌, ◌++◌, length, Option, Some, None}
 use Rattle.gm_packet.specs.Kinds.{kind_of}
 use Rattle.gm_packet.specs.Answers.{no_job}
 use Rattle.gm_notes.specs.declared.note.Note.{Note}
@@ -9,7 +9,7 @@ use Rattle.gm_notes.specs.declared.states.Priority.{Priority}
 use Rattle.gm_notes.specs.declared.states.Priority.TheVariants.{High, Normal, Low}
 use Rattle.gm_notes.specs.Settings.{Settings}
 use Rattle.gm_notes.specs.Notes.{takes_units, moment}
-use Rattle.gm_notes.specs.Jobs.{Job, rank, job_state, job, deadline, is_able}
+use Rattle.gm_notes.specs.Jobs.{Job, job_state, job, deadline, queue, is_able}
 use Rattle.gm_notes.specs.JobStates as states
 use Rattle.gm_notes.specs.Past.{Past}
 use Rattle.gm_notes.specs.Servers.{owes}
@@ -26,9 +26,16 @@ came n (Made m f p u body ∷ older) = if n == m then length older else came n o
 came n (Returned m ∷ older) = if n == m then length older else came n older
 came n (note ∷ older) = came n older
 
+-- high goes before normal and low, and normal before low
+abbrev pub IsHigher : Priority → Priority → Type 0
+IsHigher High Normal = Unit {0}
+IsHigher High Low = Unit {0}
+IsHigher Normal Low = Unit {0}
+IsHigher p q = ⊥
+
 -- job n, which is this, goes before job m, which is that: by priority, and then by when they came
 abbrev pub GoesBefore : List Note → ℕ → Job → ℕ → Job → Type 0
-GoesBefore notes n what m other = (rank what.priority < rank other.priority) ⊎ ((what.priority ≡ other.priority) × (came n notes < came m notes))
+GoesBefore notes n what m other = IsHigher what.priority other.priority ⊎ ((what.priority ≡ other.priority) × (came n notes < came m notes))
 
 -- the job that a slot is given goes before each other of its function that waited
 abbrev pub GivesTheFirst : Past → Past → Type 0
@@ -37,24 +44,22 @@ GivesTheFirst before after = (c n m : ℕ) (what other : Job) →
     job n before.notes ≡ Some what → job m before.notes ≡ Some other → other.function ≡ what.function → (n ≡ m → ⊥) →
     GoesBefore before.notes n what m other
 
--- nothing gets in before job n, which waits before and after a step: what came before it had come before it already
+-- m is ahead of n in the list
+abbrev pub IsAhead : ℕ → ℕ → List ℕ → Type 0
+IsAhead m n ns = (before between after : List ℕ) × (ns ≡ before ++ m ∷ (between ++ n ∷ after))
+
+-- nothing gets in before job n, which waits before and after a step: what is ahead of it in its queue was ahead of it
+-- already
 abbrev pub NothingGetsInBefore : Past → Past → Type 0
-NothingGetsInBefore before after = (n m : ℕ) →
-    job_state n before.notes ≡ states.Waiting → job_state n after.notes ≡ states.Waiting →
-    job_state m after.notes ≡ states.Waiting → came m after.notes < came n after.notes →
-    (job_state m before.notes ≡ states.Waiting) × (came m before.notes < came n before.notes)
+NothingGetsInBefore before after = (n m : ℕ) (what : Job) →
+    job_state n before.notes ≡ states.Waiting → job_state n after.notes ≡ states.Waiting → job n before.notes ≡ Some what →
+    IsAhead m n (queue what.function what.priority after.notes) → IsAhead m n (queue what.function what.priority before.notes)
 
 abbrev pub FirstComeFirstServed : Settings → Past → Step → Past → Type 0
 FirstComeFirstServed k before s after = GivesTheFirst before after × NothingGetsInBefore before after
 
--- high goes before normal and low, and normal before low
-abbrev pub IsHigher : Priority → Priority → Type 0
-IsHigher High Normal = Unit {0}
-IsHigher High Low = Unit {0}
-IsHigher Normal Low = Unit {0}
-IsHigher p q = ⊥
-
--- with as_gearmand no job waits that the slot can do and whose priority is higher than that of the job that the slot is given
+-- with as_gearmand no job waits that the slot can do and whose priority is higher than that of the job that the slot is
+-- given
 abbrev pub HighGoesFirst : Settings → Past → Step → Past → Type 0
 HighGoesFirst k before s after = (c n m : ℕ) (what other : Job) → k.as_gearmand ≡ true →
     job_state n before.notes ≡ states.Waiting → job_state n after.notes ≡ states.Running c → job n before.notes ≡ Some what →
@@ -69,8 +74,8 @@ WakesHaveWork k before s after = (c : ℕ) → owes c before ≡ false → owes 
 
 -- ---- what a grab gets
 
--- a job that is given out at this moment and may take this many seconds has this deadline: the moment plus the seconds, at most the
--- greatest number of 64 bits; 0 seconds are no limit
+-- a job that is given out at this moment and may take this many seconds has this deadline: the moment plus the seconds,
+-- at most the greatest number of 64 bits; 0 seconds are no limit
 abbrev pub IsDeadline : ℕ → ℕ → Option ℕ → Type 0
 IsDeadline now zero deadline = deadline ≡ None
 IsDeadline now (suc seconds) deadline = deadline ≡ Some (min (now + suc seconds) (2 ^ 64 - 1))

@@ -1,5 +1,5 @@
-//! Worked rows: what the definitions give for whole runs of steps. Each clause here is a row, of what is queued, refused,
-//! answered or owed; the functions do nothing. They test the definitions.
+//! Worked rows: what the definitions give for whole runs of steps. Each clause here is a row, of what is queued,
+//! refused, answered or owed; the functions do nothing. They test the definitions.
 
 ghost use Rattle.gm_laws.specs.JobRows.{ExceptionsOption, ExceptionEnds, DataWithNul, QueueLimit, LimitCounts, FunctionLimit, LastNumber};
 ghost use Rattle.gm_laws.specs.JobRows.{JoiningKeys, JoinsRunning, EndedJobs, OnlyItsWorker, Progress, ReportKept};
@@ -205,7 +205,7 @@ pub fn lines()
     ensures shut_slots { ShutSlots }
     // The numbers of refusals and of faults.
     ensures refusal_numbers { RefusalNumbers }
-    // Valid settings: names of 1 to 40 letters, digits, dots and hyphens; first numbers from 1; 1 to 1,024 slots; 1 to 65,536
-    // functions.
+    // Valid settings: names of 1 to 40 letters, digits, dots and hyphens; first numbers from 1; 1 to 1,024 slots; 1 to
+    // 65,536 functions.
     ensures settings_in_range { SettingsInRange }
 {}

@@ -1,7 +1,0 @@
-use Rattle.gm_history.proofs.StepsKeep.{run_history}
-use Rattle.gm_laws.proofs.JobLaws.{places as law}
-use Rattle.gm_notes.specs.Steps.{run}
-use Rattle.gm_laws.proofs.laws.placed_exactly_where_made.Goals as goal
-
-pub returns : goal.returns
-returns c k steps = law k (run k steps).notes (run_history k steps)
