@@ -1,1 +1,2 @@
 pub mod Pollers
+pub mod Watching

@@ -1,6 +1,11 @@
 //! What threads that wait for many connections share with others.
 
-use crate::poller::{MARKS, Poller};
+ghost use Rattle.std.specs.Prelude.{◌≡◌, ◌+◌, ◌*◌, ◌<◌, ◌≤◌, All, IfOk, length, max};
+ghost use Rattle.std.specs.Int.{div_ceil};
+ghost use Rattle.gm_poll.specs.Pollers.{AreNew};
+ghost use Rattle.gm_poll.specs.Watching.{watched};
+
+use crate::poller::{MARKS, Marks, Poller};
 use mio::unix::SourceFd;
 use mio::{Interest, Poll, Registry, Token, Waker};
 use std::alloc::Global;
@@ -13,6 +18,37 @@ use std::sync::atomic::{AtomicU64, Ordering};
 /// What a thread's waker is registered as. No slot has this number.
 const WAKER: Token = Token(usize::MAX);
 
+/// What a connection is watched for: that bytes come, that it takes bytes again, and urgent data, since these end a
+/// read, so that what is behind them has to be reported again.
+fn interests() -> Interest
+    ensures { result ≡ watched }
+{
+    Interest::READABLE | Interest::WRITABLE | Interest::PRIORITY
+}
+
+/// Has a descriptor watched for these, as the slot's. It says as what and what for.
+fn watch(
+    registry: &Registry,
+    slot: u32,
+    fd: RawFd,
+    interests: Interest,
+) -> io::Result<(Token, Interest)>
+    ensures { IfOk result (λ watch. (watch.0.0 ≡ slot) × (watch.1 ≡ interests)) }
+{
+    let token = Token(slot as usize);
+    registry.register(&mut SourceFd(&fd), token, interests)?;
+    Ok((token, interests))
+}
+
+/// Which of this many threads serves a slot, and at which of its positions.
+fn thread_and_position(slot: u32, count: usize) -> (usize, usize)
+    ensures thread { result.0 < max count 1 }
+    ensures slot { slot ≡ result.0 + result.1 * max count 1 }
+{
+    let count = count.max(1);
+    (slot as usize % count, slot as usize / count)
+}
+
 /// Where others leave word for a thread.
 #[derive(Drop)]
 struct Mailbox {
@@ -23,7 +59,9 @@ struct Mailbox {
 }
 
 impl Mailbox {
-    fn new(alloc: Global, poll: &Poll, slots: usize) -> io::Result<Mailbox> {
+    fn new(alloc: Global, poll: &Poll, slots: usize) -> io::Result<Mailbox>
+        ensures { IfOk result (λ mailbox. slots ≤ length mailbox.marks.items * 64) }
+    {
         let mut marks = Vec::new(alloc);
         for _ in 0..slots.div_ceil(MARKS) {
             marks.push(AtomicU64::new(0))?;
@@ -49,14 +87,18 @@ pub struct Hub {
 }
 
 impl Hub {
-    /// A hub of this many threads for this many slots, and what each of them waits at. An error says which call of the system's failed, or
-    /// that there was no memory.
+    /// A hub of this many threads for this many slots, and what each of them waits at. An error says which call of the
+    /// system's failed, or that there was no memory.
     pub fn new(
         rt: &impl Net,
         alloc: Global,
         count: u32,
         slots: u32,
-    ) -> io::Result<(Hub, Vec<Poller>)> {
+    ) -> io::Result<(Hub, Vec<Poller>)>
+        ensures mailboxes { IfOk result (λ both. length both.0.mailboxes.items ≡ count) }
+        ensures marks { IfOk result (λ both. All (λ mailbox. div_ceil slots count ≤ length mailbox.marks.items * 64) both.0.mailboxes.items) }
+        ensures pollers { IfOk result (λ both. AreNew count slots both.1.items) }
+    {
         let mut mailboxes = Vec::new(alloc);
         let mut pollers = Vec::new(alloc);
         for thread in 0..count {
@@ -67,22 +109,16 @@ impl Hub {
         Ok((Hub { mailboxes }, pollers))
     }
 
-    fn mailbox(&self, slot: u32) -> Option<&Mailbox> {
-        let count = self.mailboxes.len().max(1);
-        self.mailboxes.get(slot as usize % count)
-    }
-
-    /// Has what comes at this descriptor reported to the slot's thread, and that it takes bytes again, until it is closed.
-    pub fn register(&self, slot: u32, fd: RawFd) -> io::Result<()> {
+    /// Has what comes at this descriptor reported to the slot's thread, and that it takes bytes again, until it is
+    /// closed. It says as what the descriptor is watched, and what for.
+    pub fn register(&self, slot: u32, fd: RawFd) -> io::Result<(Token, Interest)>
+        ensures { IfOk result (λ watch. (watch.0.0 ≡ slot) × (watch.1 ≡ watched)) }
+    {
         // Modelled in models/polling.pml.
-        // Urgent data end a read, so what is behind them has to be reported again.
-        let interests = Interest::READABLE | Interest::WRITABLE | Interest::PRIORITY;
-        match self.mailbox(slot) {
-            Some(mailbox) => {
-                mailbox
-                    .registry
-                    .register(&mut SourceFd(&fd), Token(slot as usize), interests)
-            }
+        let interests = interests();
+        let (thread, _) = thread_and_position(slot, self.mailboxes.len());
+        match self.mailboxes.get(thread) {
+            Some(mailbox) => watch(&mailbox.registry, slot, fd, interests),
             None => Err(Error::from(ErrorKind::NotFound)),
         }
     }
@@ -90,13 +126,13 @@ impl Hub {
     /// Has the slot's thread look at it.
     pub fn wake(&self, slot: u32) {
         // Modelled in models/polling.pml.
-        let Some(mailbox) = self.mailbox(slot) else {
+        let (thread, position) = thread_and_position(slot, self.mailboxes.len());
+        let Some(mailbox) = self.mailboxes.get(thread) else {
             return;
         };
-        let index = slot as usize / self.mailboxes.len().max(1);
-        if let Some(word) = mailbox.marks.get(index / MARKS) {
+        if let Some(word) = mailbox.marks.get(position / MARKS) {
             // Where it is set already, the thread that set it woke this one.
-            let bit = 1 << (index % MARKS);
+            let bit = 1 << (position % MARKS);
             if word.fetch_or(bit, Ordering::SeqCst) & bit == 0 {
                 mailbox.wake();
             }
@@ -113,15 +149,17 @@ impl Hub {
         }
     }
 
-    /// Takes the marks of 64 of a thread's slots, from its slot 64 times `at` on: a bit for each.
-    pub(crate) fn take_marks(&self, thread: u32, at: usize) -> u64 {
+    /// Takes the marks of 64 of a thread's slots, from this position of its on.
+    pub(crate) fn take_marks(&self, thread: u32, first: usize) -> Marks
+        ensures { result.first ≡ first }
+    {
         // Modelled in models/polling.pml.
         let Some(mailbox) = self.mailboxes.get(thread as usize) else {
-            return 0;
+            return Marks::none(first);
         };
-        match mailbox.marks.get(at) {
-            Some(word) if word.load(Ordering::SeqCst) != 0 => word.swap(0, Ordering::SeqCst),
-            _ => 0,
+        match mailbox.marks.get(first / MARKS) {
+            Some(word) => Marks::take(word, first),
+            None => Marks::none(first),
         }
     }
 }

@@ -1,17 +1,19 @@
 //! What a thread waits at.
 
-ghost use Rattle.std.specs.Prelude.{◌≡◌, ◌+◌, ◌/◌, ◌^◌, ◌<◌, ◌&&◌, ◌||◌, ◌⊎◌, ℕ, not, true, IsTrue, IfOk, IsBitSet, max, nat_lt, [], length, slice_set};
+ghost use Rattle.std.specs.Prelude.{◌≡◌, ◌+◌, ◌/◌, ◌^◌, ◌<◌, ◌&&◌, ◌||◌, ◌⊎◌, ℕ, List, not, true, IsTrue, IfOk, All, max, nat_lt, length, slice_set};
+ghost use Rattle.std.specs.Int.{div_ceil};
 ghost use Rattle.std.specs.VecDeque.{deque_len, deque_capacity};
 ghost use Rattle.mio.specs.Event.{event_token, is_read_closed, is_priority};
-ghost use Rattle.gm_poll.specs.Pollers.{IsNew, Heeds, IsCalled, TakesTurn, call_at, queued, reported, called, served};
+ghost use Rattle.gm_poll.specs.Pollers.{IsNew, Heeds, IsHeard, TakesTurn, Wakes, all_marked, call_at, queued, reported, called, heard, longest_wait, is_while, looked_at, marked, served};
 
 use crate::hub::Hub;
-use gm_report::{AGAIN_MS, WAKING_TIME_MS};
+use gm_time::{AGAIN_MS, WAKING_TIME_MS};
 use mio::event::Event;
 use mio::{Events, Poll};
 use std::alloc::{AllocError, Global};
 use std::collections::VecDeque;
 use std::marker::Model;
+use std::sync::atomic::{AtomicU64, Ordering};
 use std::time::{Clock, Duration, Instant};
 
 /// How many slots are marked in a word.
@@ -19,6 +21,36 @@ pub(crate) const MARKS: usize = 64;
 
 /// How many events it takes at a time.
 const EVENTS: usize = 256;
+
+/// The marks of 64 of a thread's slots, which others made and the thread took: it is to look at the marked ones. A
+/// value of this type is let go of only by calling them.
+pub(crate) struct Marks {
+    /// The position of the first of the 64.
+    first: usize,
+    /// A bit for each.
+    bits: u64,
+}
+
+impl Marks {
+    /// No marks, of 64 slots from this position on.
+    pub(crate) fn none(first: usize) -> Marks
+        ensures { result ≡ record { first = first; bits = 0 } }
+    {
+        Marks { first, bits: 0 }
+    }
+
+    /// Takes the marks of 64 slots from this position on.
+    pub(crate) fn take(word: &AtomicU64, first: usize) -> Marks
+        ensures { result.first ≡ first }
+    {
+        // Modelled in models/polling.pml.
+        let bits = match word.load(Ordering::SeqCst) {
+            0 => 0,
+            _ => word.swap(0, Ordering::SeqCst),
+        };
+        Marks { first, bits }
+    }
+}
 
 /// A slot that a thread serves, and why it is to be served.
 #[derive(Clone, Copy)]
@@ -34,12 +66,15 @@ pub struct Call {
     is_again: bool,
 }
 
-/// What a thread waits at, for the slots that it serves. It finds all its memory when it is made. Contracts see which of its slots are to be
-/// served and in which order, and why, but nothing of the system's.
+/// What a thread waits at, for the slots that it serves. It finds all its memory when it is made. Contracts see which
+/// of its slots are to be served and in which order, and why, and for how long it last asked the system and what that
+/// reported.
 #[derive(Drop)]
 pub struct Poller {
     poll: Poll,
+    // What was reported when it was asked last, and how many milliseconds that could take at most.
     events: Events,
+    time: u64,
     /// The thread's number, which is its first slot's, and how many threads there are, so how far its slots are apart.
     thread: u32,
     count: u32,
@@ -57,13 +92,14 @@ pub struct Poller {
 impl Model for Poller {
     ghost use Rattle.std.specs.Prelude.{◌≤◌, vec_len};
     ghost use Rattle.std.specs.VecDeque.{deque_capacity};
+    ghost use Rattle.mio.specs.Events.{items};
     ghost use Rattle.gm_poll.specs.Pollers.{PollerState, IsOrderly};
 
     ghost Value = { PollerState };
 
-    ghost view = { λ p. record { thread = p.thread; count = p.count; calls = p.calls.items; ready = p.ready.items; behind = p.behind.items; again = p.again.items } };
+    ghost view = { λ p. record { thread = p.thread; count = p.count; calls = p.calls.items; ready = p.ready.items; behind = p.behind.items; again = p.again.items; time = p.time; events = items p.events } };
 
-    ghost invariant = { λ p. IsOrderly (record { thread = p.thread; count = p.count; calls = p.calls.items; ready = p.ready.items; behind = p.behind.items; again = p.again.items })
+    ghost invariant = { λ p. IsOrderly (record { thread = p.thread; count = p.count; calls = p.calls.items; ready = p.ready.items; behind = p.behind.items; again = p.again.items; time = p.time; events = items p.events })
         × (vec_len p.calls ≤ deque_capacity p.ready)
         × (vec_len p.calls ≤ deque_capacity p.behind)
         × (vec_len p.calls ≤ deque_capacity p.again) };
@@ -97,6 +133,7 @@ impl Poller {
         Ok(Poller {
             poll,
             events: Events::with_capacity(alloc, EVENTS)?,
+            time: 0,
             thread,
             count,
             ready: VecDeque::with_capacity(alloc, calls.len())?,
@@ -114,52 +151,81 @@ impl Poller {
         self.ready.len().saturating_add(self.behind.len())
     }
 
-    /// Waits until there are slots to serve, or for a second.
+    /// Waits until there are slots to serve, or for a second. What came meanwhile is to be served: each event that the
+    /// system reported, each mark that others made, and what is to be looked at again.
     pub fn wait(&mut self, rt: &impl Clock, hub: &Hub)
+        ensures time { self.new.time ≡ longest_wait self.old }
+        ensures wakes { Wakes self.old self.new }
         ensures heeds { Heeds self.old self.new }
-        ensures again { (self.new.again ≡ self.old.again) ⊎ (self.new.again ≡ []) }
+        ensures heard { All (IsHeard self.new) self.new.events }
     {
         // Modelled in models/polling.pml.
-        let time = if self.ready() > 0 {
+        let time = self.longest_wait();
+        self.poll(time);
+        self.hear();
+        self.take_marks(hub);
+        self.look_again(rt);
+    }
+
+    /// How many milliseconds it may wait: not where there are slots to serve, and less long where some are to be looked
+    /// at again.
+    fn longest_wait(&self) -> u64
+        ensures { result ≡ longest_wait self.now }
+    {
+        // Modelled in models/polling.pml.
+        if self.ready() > 0 {
             0
         } else if !self.again.is_empty() {
             AGAIN_MS
         } else {
             WAKING_TIME_MS
-        };
+        }
+    }
+
+    /// Asks the system what came, and waits for this many milliseconds at most.
+    fn poll(&mut self, time: u64)
+        ensures { self.new ≡ record self.old { time = time; events = self.new.events } }
+    {
+        // Modelled in models/polling.pml.
+        self.time = time;
         // Where it fails, there are no events.
         let _ = self
             .poll
-            .poll(&mut self.events, Some(Duration::from_millis(time)));
+            .poll(&mut self.events, Some(Duration::from_millis(self.time)));
+    }
+
+    /// The slots of what was reported are to be served.
+    fn hear(&mut self)
+        ensures { self.new ≡ heard self.old.events self.old }
+    {
+        // Modelled in models/polling.pml.
         for event in &self.events {
             take_event(&mut self.calls, &mut self.ready, self.count, event);
         }
-        self.take_marks(hub);
-        self.look_again(rt);
     }
 
-    /// Takes the marks that others made.
+    /// Takes the marks that others made: those slots are to be served.
     fn take_marks(&mut self, hub: &Hub)
-        ensures heeds { Heeds self.old self.new }
-        ensures again { self.new.again ≡ self.old.again }
+        ensures { (words : List ℕ) × (length words ≡ div_ceil (length self.old.calls) 64) × (self.new ≡ all_marked words self.old) }
     {
         // Modelled in models/polling.pml.
         for at in 0..self.calls.len().div_ceil(MARKS) {
-            let marks = hub.take_marks(self.thread, at);
-            if marks != 0 {
-                self.call_marked(at * MARKS, marks);
-            }
+            let marks = hub.take_marks(self.thread, at * MARKS);
+            self.call_marked(marks);
         }
     }
 
-    /// The marked ones of these, from the first on, are to be served.
-    fn call_marked(&mut self, first: usize, marks: u64)
-        ensures heeds { Heeds self.old self.new }
-        ensures again { self.new.again ≡ self.old.again }
-        ensures marked { (bit : ℕ) → bit < 64 → IsBitSet marks bit → first + bit < 2 ^ 64 → first + bit < length self.old.calls → IsCalled self.new (first + bit) }
+    /// The marked ones are to be served.
+    fn call_marked(&mut self, marks: Marks)
+        ensures { self.new ≡ marked marks.first marks.bits 64 self.old }
     {
+        // Modelled in models/polling.pml.
+        let Marks { first, bits } = marks;
+        if bits == 0 {
+            return;
+        }
         for bit in 0..MARKS {
-            if marks & 1 << bit != 0 {
+            if bits & 1 << bit != 0 {
                 self.call(first.saturating_add(bit));
             }
         }
@@ -167,7 +233,8 @@ impl Poller {
 
     /// A slot is to be served, though its socket wasn't reported.
     fn call(&mut self, at: usize)
-        ensures { self.new ≡ called at self.old }
+        ensures called { self.new ≡ called at self.old }
+        ensures fits { length self.old.calls < 2 ^ 64 }
     {
         // Modelled in models/polling.pml.
         let Some(call) = self.calls.get_mut(at) else {
@@ -179,8 +246,7 @@ impl Poller {
 
     /// Looks again at those that are to be, where it is time.
     fn look_again(&mut self, rt: &impl Clock)
-        ensures heeds { Heeds self.old self.new }
-        ensures again { (self.new.again ≡ self.old.again) ⊎ (self.new.again ≡ []) }
+        ensures { (self.new ≡ self.old) ⊎ (self.new ≡ looked_at self.old.again self.old) }
     {
         // Modelled in models/polling.pml.
         if self.again.is_empty() || !self.is_time(rt) {
@@ -197,18 +263,13 @@ impl Poller {
         }
     }
 
-    /// Whether it is a while since they were looked at. It is where the clock can't be read.
+    /// Whether it is a while since they were looked at.
     fn is_time(&mut self, rt: &impl Clock) -> bool
         ensures { self.new ≡ self.old }
     {
         // Modelled in models/polling.pml.
         let now = Instant::now(rt).ok();
-        let is_time = match (&self.looked, &now) {
-            (Some(looked), Some(now)) => {
-                now.duration_since(*looked) >= Duration::from_millis(AGAIN_MS)
-            }
-            _ => true,
-        };
+        let is_time = is_while(&self.looked, &now);
         if is_time {
             self.looked = now;
         }
@@ -231,8 +292,8 @@ impl Poller {
         Some(next)
     }
 
-    /// A slot was served: it is to be served again once the others were that are to be served now, or when it is called; and it is looked
-    /// at again in a while or not.
+    /// A slot was served: it is to be served again once the others were that are to be served now, or when it is
+    /// called; and it is looked at again in a while or not.
     pub fn put_back(&mut self, slot: u32, is_now: bool, is_again: bool)
         ensures { self.new ≡ served (slot / self.old.count) is_now is_again self.old }
     {
@@ -244,6 +305,17 @@ impl Poller {
         call.is_odd = call.is_odd && is_now;
         queue_up(&mut self.behind, &mut call.is_ready, at, is_now);
         queue_up(&mut self.again, &mut call.is_again, at, is_again);
+    }
+}
+
+/// Whether it is a while from the one time to the other. It is where a time isn't known.
+fn is_while(from: &Option<Instant>, to: &Option<Instant>) -> bool
+    ensures { result ≡ is_while AGAIN_MS from.now to.now }
+{
+    // Modelled in models/polling.pml.
+    match (from, to) {
+        (Some(from), Some(to)) => to.duration_since(*from) >= Duration::from_millis(AGAIN_MS),
+        _ => true,
     }
 }
 

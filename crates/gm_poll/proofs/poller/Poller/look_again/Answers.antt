@@ -1,20 +1,11 @@
-use Rattle.std.proofs.Common.{◌≡◌, length, None, ap, sym, subst, arith}
-use Rattle.gm_poll.specs.Pollers.{Heeds}
+use Rattle.std.proofs.Common.{◌≡◌, length, None, ap, ◌∙◌, arith}
+use Rattle.gm_poll.specs.Pollers.{PollerState, looked_at}
 use Rattle.gm_poll.specs.contracts.poller.Poller.{the_view}
-use Rattle.gm_poll.proofs.HeedLemmas.{heeds_nothing, heeds_both, heeds_again}
+use Rattle.gm_poll.proofs.HeedLemmas.{looks_at_one}
 use Rattle.gm_poll.proofs.PollerLemmas.{again_of_slot, again_orderly, not_none}
 use Rattle.gm_poll.proofs.poller.Poller.look_again.Given.{Over}
 use Rattle.gm_poll.proofs.poller.Poller.look_again.Goals as goal
-use Rattle.gm_poll.proofs.poller.Poller.look_again.Goals.{then-is_empty-via-then-is_empty, then-is_empty-via-else-is_empty+then-not-is_time, in-Some-get_mut, in_default-get_mut, Joined-get_mut}
-
-pub returns-then-is_empty-clause-heeds : goal.returns-then-is_empty-clause-heeds
-returns-then-is_empty-clause-heeds g c = elim c.then-is_empty.branch [
-  | then-is_empty-via-then-is_empty w ↦ rw w.self-is (heeds_nothing _)
-  | then-is_empty-via-else-is_empty+then-not-is_time w ↦ rw (w.self-is, w.is_time.ensures) (heeds_nothing _)
-]
-
-pub loop-init : goal.loop-init
-loop-init g c = record { heeds = rw c.is_time.ensures (heeds_nothing _); left = omega (arith, ap (λ p. length p.again) c.self-2.view_is, c.self-2.inside.again.ok.0) }
+use Rattle.gm_poll.proofs.poller.Poller.look_again.Goals.{in-Some-get_mut, in_default-get_mut, Joined-get_mut}
 
 lost : (g : Over) (c : Joined-get_mut g) → c.get_mut.result ≡ None → ⊥
 lost g c is =
@@ -36,11 +27,11 @@ pub loop-preserved : goal.loop-preserved
 loop-preserved g c = elim c.match-get_mut.branch [
   | in-Some-get_mut w ↦
       let p = the_view c.self-in-loop.inside in
-      let lt = again_of_slot p c.self-in-loop.invariant.0 c.in-Some.at _ c.in-Some.ensures.items in
-      let old = c.loop.invariant in
-      let step = heeds_again p c.in-Some.at w.in-Some-get_mut.call.now c.pop_front.new.self.items lt w.in-Some-get_mut.ensures.value in
+      let at = c.in-Some.at in
+      let lt = again_of_slot p c.self-in-loop.invariant.0 at _ c.in-Some.ensures.items in
+      let one = looks_at_one at c.pop_front.new.self.items w.in-Some-get_mut.call.now p lt w.in-Some-get_mut.ensures.value c.in-Some.ensures.items in
       let was = ap (λ p. length p.again) c.self-in-loop.view_is in
       let less = ap length c.in-Some.ensures.items in
-      rw (c.call.ensures, w.self-inside-is) (record { heeds = heeds_both c.args.self.now p _ (subst (λ q. Heeds c.args.self.now q) (sym c.self-in-loop.view_is) old.heeds) step; left = omega arith })
+      rw (c.call.ensures.called, w.self-inside-is) (record { rest = one ∙ ap (λ (p : PollerState). looked_at p.again p) c.self-in-loop.view_is ∙ c.loop.invariant.rest; left = omega arith })
   | in_default-get_mut w ↦ absurd (lost g (goal.at.loop-preserved g c).Joined-get_mut w.in_default-get_mut.is)
 ]

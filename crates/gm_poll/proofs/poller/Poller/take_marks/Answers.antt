@@ -1,10 +1,10 @@
-use Rattle.std.proofs.Common.{◌∙◌}
-use Rattle.gm_poll.proofs.HeedLemmas.{heeds_both}
+use Rattle.std.proofs.Common.{◌∷◌, ◌∙◌, ◌*◌, ◌≡◌, length, suc, ap, sym, arith, add-one}
+use Rattle.gm_poll.specs.Pollers.{marked}
 use Rattle.gm_poll.proofs.poller.Poller.take_marks.Goals as goal
-use Rattle.gm_poll.proofs.poller.Poller.take_marks.Goals.{then-marks-ne0, else-marks-ne0}
 
 pub loop-at-preserved : goal.loop-at-preserved
-loop-at-preserved c = elim c.if-marks-ne0.branch [
-  | then-marks-ne0 w ↦ rw w.self-is (record { heeds = heeds_both c.args.self.now c.loop-at.self _ c.loop-at.invariant.heeds w.call_marked.ensures.heeds; again = w.call_marked.ensures.again ∙ c.loop-at.invariant.again })
-  | else-marks-ne0 w ↦ rw w.self-is c.loop-at.invariant
-]
+loop-at-preserved c =
+    let before = c.loop-at.invariant.0 in
+    let bits = c.take_marks-marks.result.bits in
+    let first : c.take_marks-marks.result.first ≡ length before * 64 = omega (arith, c.take_marks-marks.ensures, c.loop-at.invariant.1) in
+    (bits ∷ before, ap suc c.loop-at.invariant.1 ∙ sym (add-one c.loop-at.at), c.call_marked.ensures ∙ ap (λ n. marked n bits 64 c.loop-at.self) first ∙ ap (marked (length before * 64) bits 64) c.loop-at.invariant.2)
