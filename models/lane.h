@@ -1,4 +1,4 @@
-/* What the models share: a slot's lane (lane.rt, sender.rt, message.rt, socket.rt, life.rt of gm_delivery) over its word (gm_lane_word), its pen
+/* What the models share: a slot's lane (lane.rt, sender.rt, message.rt, outbound.rt, life.rt of gm_delivery) over its word (gm_lane_word), its pen
  * (gm_shared, gm_word) and the book. A comment before each inline names the function that it mirrors, and its file.
  *
  * Modes. By default a slot's finisher waits in a write (Pairs of crews.rt). With -DFEW it is the I/O thread that also reads, and never
@@ -50,7 +50,7 @@
 #define SEND 3
 
 /* Finish (finish.rt) */
-#define NOTHING 0        /* Finish::Idle */
+#define NOTHING 0        /* none */
 #define PENDING 1
 #define GONE    2
 
@@ -170,17 +170,17 @@ byte owners[N];          /* how many have the lane */
     byte who = OTHER; byte res = 0; byte fin = 0; byte found = 0; byte attempts = 0; \
     bool had_left = false; bool is_shut = false; bool took = false; bool has_ended = false; bool is_ending = false; bool has = false; bool has_taken = false
 
-/* Nothing is left of the present message (WriteHalf::send, socket.rt; Sender::next and let_go, sender.rt) */
+/* Nothing is left of the present message (Outbound::send, outbound.rt; Sender::next and let_go, sender.rt) */
 inline forget(s) {
     has_left[s] = false; l_gen[s] = 0; l_next[s] = 0; l_to[s] = 0; l_noop[s] = false
 }
 
-/* The sending broke off (WriteHalf::send and next, socket.rt; Sender::refill, sender.rt), under the lane's lock */
+/* The sending broke off (Outbound::send and next, outbound.rt; Sender::refill, sender.rt), under the lane's lock */
 inline cut(s) {
     line[s] = CUT; faulted[s] = true
 }
 
-/* What Sender::next (sender.rt) and WriteHalf::next (socket.rt) do to hang up, under the lane's lock */
+/* What Sender::next (sender.rt) and Outbound::next (outbound.rt) do to hang up, under the lane's lock */
 inline hang_up(s) {
 #ifndef M_KEEP_LEFT
     forget(s);
@@ -210,7 +210,7 @@ inline look(s) {
     fi
 }
 
-/* One write of Message::send (message.rt), with write_once (writing.rt) and WriteHalf::write_by (socket.rt), under the lane's lock.
+/* One write of Message::send (message.rt), with write_once (writing.rt) and Outbound::write_by (outbound.rt), under the lane's lock.
  * Afterwards res is SEND if more is left to write, DONE, BLOCKED or OVER. */
 inline write_one(s) {
     assert(line[s] == OPEN);
@@ -345,7 +345,7 @@ inline let_go(s) {
     fi
 }
 
-/* Sender::next (sender.rt) with WriteHalf::next (socket.rt) and Life::next (life.rt), and what Lane::attempt (lane.rt) does then; under the
+/* Sender::next (sender.rt) with Outbound::next (outbound.rt) and Life::next (life.rt), and what Lane::attempt (lane.rt) does then; under the
  * lane's lock, which is released. Where bytes are left, a finisher that may wait comes again at once, as its write has waited; here each
  * comes again where that may change something. */
 inline end_delivery(s) {
@@ -387,7 +387,7 @@ inline end_delivery(s) {
     res = 0; is_shut = false; had_left = false
 }
 
-/* Claim::attempt (claim.rt) and Lane::attempt (lane.rt), with Sender::deliver, refill and finish (sender.rt) and WriteHalf::send (socket.rt):
+/* Claim::attempt (claim.rt) and Lane::attempt (lane.rt), with Sender::deliver, refill and finish (sender.rt) and Outbound::send (outbound.rt):
  * what was left, the take, the drain, and one write after another until all is sent, or one is blocked or fails. A jump from one atomic
  * block into another goes on without a step of others. */
 inline attempt(s) {

@@ -70,6 +70,8 @@ inline at_lane() {
         :: else
         fi;
         atomic { (book == 0) ->                    /* Talk::close (talk.rt), and OwnDesk::apply (own_desk.rt) */
+            /* so that ServerState::finish closes whatever was let go of; or nobody was to serve it (Control::refuse) */
+            assert(talking[cur] == TALK_ENDED || talking[cur] == NO_TALK);
             closing = true; fin = NOTHING;
             if
             :: wants > 0 -> wants--; no_memory = true;

@@ -33,8 +33,8 @@ pub struct Report<'a> {
     pub denominator: &'a [u8],
 }
 
-/// A WORK packet of a worker: the handle of its job, the packet that is passed on, whether only to listeners with the exceptions
-/// option, how far the job is, if it says so, and whether the job ends with it whatever the settings are.
+/// A WORK packet of a worker: the handle of its job, the packet that is passed on, whether only to listeners with the
+/// exceptions option, how far the job is, if it says so, and whether the job ends with it whatever the settings are.
 #[derive(Clone, Copy)]
 pub struct WorkPacket<'a> {
     /// The handle of the job.

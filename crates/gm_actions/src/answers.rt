@@ -28,8 +28,8 @@ pub struct JobRef<'a> {
     pub body: &'a [u8],
 }
 
-/// The answer to a worker with the job that it gets, with its unique id if it asked for that (the Gearman PROTOCOL document,
-/// "JOB_ASSIGN" and "JOB_ASSIGN_UNIQ").
+/// The answer to a worker with the job that it gets, with its unique id if it asked for that (the Gearman PROTOCOL
+/// document, "JOB_ASSIGN" and "JOB_ASSIGN_UNIQ").
 pub fn assignment<'a>(text: &'a [u8], job: &JobRef<'a>, with_unique: bool) -> Response<'a>
     ensures exact { answer_of result ≡ assigned with_unique text.now (job_of job.now) }
     ensures value { (k : Settings) (n : ℕ) → text.now ≡ handle k n → answer_of result ≡ assignment k with_unique n (job_of job.now) }

@@ -7,8 +7,8 @@ use crate::actions::Action;
 use crate::refusal::Refusal;
 use gm_notes::Event;
 
-/// An event, and what its packet asks, or why that is refused whatever the server holds. A packet is read once, before any lock is
-/// taken.
+/// An event, and what its packet asks, or why that is refused whatever the server holds. A packet is read once, before
+/// any lock is taken.
 #[derive(Clone, Copy)]
 pub struct ReadEvent<'a> {
     /// The event.

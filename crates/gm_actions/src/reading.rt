@@ -67,8 +67,8 @@ fn report_on<'a>(handle: &'a [u8], numerator: &'a [u8], denominator: &'a [u8]) -
     }
 }
 
-/// A packet about a job, with this body: it is passed on to the job's listeners, or only to those with the exceptions option, and
-/// may end the job whatever the settings are.
+/// A packet about a job, with this body: it is passed on to the job's listeners, or only to those with the exceptions
+/// option, and may end the job whatever the settings are.
 fn pass_on<'a>(
     handle: &'a [u8],
     response: Response<'a>,
@@ -181,10 +181,10 @@ fn check_submission<'a>(
     }
 }
 
-/// What a request asks: a row for each submission, with its priority and whether it is a background one; a row for each packet with a
-/// body about a job, with whether it is only for listeners with the exceptions option, and whether it ends the job; and an arm
-/// for each other.
-macro_rules! read_by_kind {
+/// What a request asks: a row for each submission, with its priority and whether it is a background one; a row for each
+/// packet with a body about a job, with whether it is only for listeners with the exceptions option, and whether it
+/// ends the job; and an arm for each other.
+macro_rules! act_by_kind {
     ($request:ident, $bytes:ident:
         submissions { $($submit:ident: $priority:ident, $background:literal;)* }
         reports { $($report:ident: $exceptions_only:literal, $ends:literal;)* }
@@ -213,7 +213,7 @@ fn read_request<'a>(request: &Request<'a>, bytes: &Data<'a>) -> Result<Action<'a
     ensures memory { needs_no_memory (asked_of request.now).kind ≡ true → ActsWithoutMemory result }
     ensures grab { grabs result ≡ is_grab (asked_of request.now).kind }
 {
-    read_by_kind! { request, bytes:
+    act_by_kind! { request, bytes:
         submissions {
             SubmitJob: Normal, false;
             SubmitJobBg: Normal, true;

@@ -13,8 +13,8 @@ use std::mem;
 /// How much of a queue's room shared bytes take, however many they are.
 pub const SHARED_ROOM: usize = 512;
 
-/// A queue of bytes. Some of them are copied to it, others are the ends of shared buffers and lie where they are. Contracts
-/// see one list, and the room that is reserved for more: what is put in reserved room can't fail.
+/// A queue of bytes. Some of them are copied to it, others are the ends of shared buffers and lie where they are.
+/// Contracts see one list, and the room that is reserved for more: what is put in reserved room can't fail.
 #[derive(Drop)]
 pub struct ByteQueue {
     copied: Vec<u8>,
@@ -23,8 +23,8 @@ pub struct ByteQueue {
     runs: VecDeque<Run>,
     // How many copied bytes come behind the last run.
     behind: usize,
-    // How many bytes were taken from the front: of the first run and the bytes right before it, or of the copied bytes if
-    // there is no run.
+    // How many bytes were taken from the front: of the first run and the bytes right before it, or of the copied bytes
+    // if there is no run.
     passed: usize,
     room: usize,
 }
@@ -101,7 +101,8 @@ impl ByteQueue {
         self.room -= bytes.len();
     }
 
-    /// The head and the tail wait behind the others, in reserved room: the tail, which is shared, takes `SHARED_ROOM` of it.
+    /// The head and the tail wait behind the others, in reserved room: the tail, which is shared, takes `SHARED_ROOM`
+    /// of it.
     pub fn put_shared(&mut self, head: &[u8], tail: SharedBytes)
         requires { length head.now + 512 ≤ self.old.room }
         ensures { self.new ≡ with_bytes (head.now ++ tail) (length head.now + 512) self.old }

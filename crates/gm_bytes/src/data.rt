@@ -12,7 +12,7 @@ use std::fmt::{Debug, Formatter, Write};
 /// The fewest bytes of data that are shared, and not copied each time that they are kept or passed on.
 pub const LONG: usize = 65_536;
 
-/// Bytes that are lent: the data of a packet, or the end of them. Where they lie in a buffer with several owners, code
+/// Bytes that are lent: the data of a packet, or the end of them. If they lie in a buffer with several owners, code
 /// that keeps them or passes them on can own it as well, and copies no byte. Contracts see the bytes.
 #[derive(Clone, Copy)]
 pub struct Data<'a> {

@@ -6,8 +6,8 @@ use std::alloc::{AllocError, Global};
 use std::marker::Model;
 use std::sync::Arc;
 
-/// A buffer from one index on, which others may own as well. Nothing changes the buffer. Contracts see the bytes from that
-/// index on.
+/// A buffer from one index on, which others may own as well. Nothing changes the buffer. Contracts see the bytes from
+/// that index on.
 #[derive(Drop)]
 pub struct SharedBytes {
     buffer: Arc<Vec<u8>, Global>,
@@ -35,8 +35,8 @@ impl SharedBytes {
         }
     }
 
-    /// The bytes from an index on: one more owner of the same buffer. No byte is copied and no memory taken; it fails where
-    /// the count of the owners is full.
+    /// The bytes from an index on: one more owner of the same buffer. No byte is copied and no memory taken; it fails
+    /// where the count of the owners is full.
     pub fn suffix(&self, from: usize) -> Result<SharedBytes, AllocError>
         requires { from ≤ length self.now }
         ensures { IfOk result (λ shared. shared ≡ drop from self.now) }

@@ -17,8 +17,8 @@ use std::marker::Model;
 
 /// The connections of a server, by slot.
 ///
-/// Every call with a slot, except `is_open`, requires it to be open. A refused call changes nothing, and a call that can't
-/// be refused takes no memory.
+/// Every call with a slot, except `is_open`, requires it to be open. A refused call changes nothing, and a call that
+/// can't be refused takes no memory.
 #[derive(Drop)]
 pub struct Conns {
     alloc: Global,

@@ -8,7 +8,8 @@ use std::marker::Model;
 
 const WORDS: u32 = 16;
 
-/// A set of slots below 1,024, which takes no memory of its own. Contracts see its words: `has` says which slots are in it.
+/// A set of slots below 1,024, which takes no memory of its own. Contracts see its words: `has` says which slots are in
+/// it.
 #[derive(Drop)]
 pub struct SlotSet {
     words: [u64; 16],

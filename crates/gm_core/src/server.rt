@@ -1,10 +1,10 @@
 //! The fast server: connections, functions and live jobs in tables.
 
 ghost use Rattle.std.specs.Prelude.{◌≡◌, ℕ, ◌≤◌, ◌<◌, ◌^◌, ◌==◌, ◌&&◌, not, false, List, [], ◌∷◌, None, IfOk, IfSome, IfNone};
-ghost use Rattle.std.specs.Prelude.{IsTrue, IsErrOf};
+ghost use Rattle.std.specs.Prelude.{IsTrue, IsErrOf, if◌then◌else◌};
 ghost use Rattle.gm_conns.specs.ConnTables.{conn, is_touched};
 ghost use Rattle.gm_notes.specs.Flow.{waiting};
-ghost use Rattle.gm_notes.specs.Notes.{phase};
+ghost use Rattle.gm_notes.specs.Notes.{is_open, phase};
 ghost use Rattle.gm_notes.specs.Settings.{Settings};
 ghost use Rattle.gm_notes.specs.Steps.{Step, Took, Withdrew, Drain, run};
 ghost use Rattle.gm_notes.specs.Servers.{step_of, IsSized, Answers, AnswersAt, steps_after, steps_after_that};
@@ -134,8 +134,8 @@ impl Core {
         self.tables.conns.take_touched()
     }
 
-    /// As `apply`, for a caller with a lock: `freed` receives the shared body of a job that ends, which the caller frees after unlocking,
-    /// because it may be long. Whatever it answers, it keeps no long text that it wrote.
+    /// As `apply`, for a caller with a lock: `freed` receives the shared body of a job that ends, which the caller
+    /// frees after unlocking, because it may be long. Whatever it answers, it keeps no long text that it wrote.
     pub fn apply_locked(
         &mut self,
         read: &ReadEvent<'_>,
@@ -159,7 +159,8 @@ impl Core {
     /// What the worker in a slot wants; it is awake where the slot isn't open. It takes no memory.
     pub fn phase(&self, slot: u32) -> Phase
         ensures value { result ≡ (conn self.now.conns slot).phase }
-        ensures agrees { (k : Settings) (steps : List Step) → CoreAgrees self.now k steps → result ≡ phase slot (run k steps).notes }
+        ensures agrees { (k : Settings) (steps : List Step) → CoreAgrees self.now k steps
+            → result ≡ (if is_open slot (run k steps).notes then phase slot (run k steps).notes else Phase.Awake) }
     {
         if self.tables.conns.is_open(slot) {
             self.tables.conns.phase(slot)

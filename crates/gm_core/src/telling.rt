@@ -69,7 +69,8 @@ pub(crate) fn reserve_each(
     Ok(())
 }
 
-/// Writes the packet that is passed on of a WORK packet, and makes room for it at each of these slots, which listen to the job.
+/// Writes the packet that is passed on of a WORK packet, and makes room for it at each of these slots, which listen to
+/// the job.
 pub(crate) fn prepare_each(
     conns: &mut Conns,
     text: &mut Written,

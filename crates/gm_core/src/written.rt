@@ -19,9 +19,9 @@ use std::marker::Model;
 /// The most room that is kept for the next text.
 const MOST_KEPT: usize = 65_536;
 
-/// A packet or a text that is to be queued: bytes that are copied to each queue, and behind them perhaps a body that the queues
-/// share. Contracts see the text, what it costs of a queue's room, and whether it is shared, with how many owners it has for
-/// the queues.
+/// A packet or a text that is to be queued: bytes that are copied to each queue, and behind them perhaps a body that
+/// the queues share. Contracts see the text, what it costs of a queue's room, and whether it is shared, with how many
+/// owners it has for the queues.
 #[derive(Drop)]
 pub(crate) struct Written {
     copied: Vec<u8>,

@@ -1,5 +1,5 @@
 -- What a slot's connections were sent: what its pen was given, and what was written.
-use Rattle.std.specs.Prelude.{◌≡◌, ℕ, ◌+◌, ◌*◌, ◌==◌, ◌&&◌, Bool, true, if◌then◌else◌, List, [], ◌∷◌, ◌++◌, length, map, Option, Some}
+use Rattle.std.specs.Prelude.{◌≡◌, ℕ, ℤ, ◌+◌, ◌*◌, ◌==◌, ◌&&◌, Bool, true, if◌then◌else◌, List, [], ◌∷◌, ◌++◌, length, map}
 use Rattle.gm_shared.specs.declared.tape.Answer.{Answer}
 use Rattle.gm_shared.specs.declared.tape.Answer.TheVariants as answers
 use Rattle.gm_shared.specs.declared.tape.Entry.{Entry}
@@ -39,15 +39,16 @@ abbrev pub takes_in : List DrainedMessage → ℕ
 takes_in [] = 0
 takes_in (m ∷ older) = takes_in older + (if m.took then 1 else 0)
 
--- The history grew from `since` to `until`. The messages are the drains of the pen of slot c at the n-th opening, one for one, and it took their NOOPs
--- meanwhile, and perhaps others, which are lost.
+-- The history grew from `since` to `until`. The messages are the drains of the pen of slot c at the n-th opening, one
+-- for one, and it took their NOOPs meanwhile, and perhaps others, which are lost.
 pub record AreMessages (n c : ℕ) (since : List Entry) (takes : ℕ) (until : List Entry) (takes_after lost : ℕ) (messages : List DrainedMessage) : Type 0 where
   pub newer : List Entry
   pub goes_on : until ≡ newer ++ since
   pub drained : drains_at n c until ≡ drains_in messages
   pub taken : takes_after ≡ takes + takes_in messages + lost
 
--- What was written to the connection of the n-th opening, and then the rest, is what the messages send: each byte once, in order.
+-- What was written to the connection of the n-th opening, and then the rest, is what the messages send: each byte once,
+-- in order.
 pub record IsWritten (n c : ℕ) (since : List Entry) (takes : ℕ) (until : List Entry) (takes_after lost : ℕ) (written rest : List ℕ) : Type 0 where
   pub messages : List DrainedMessage
   pub are : AreMessages n c since takes until takes_after lost messages
@@ -59,28 +60,36 @@ IsPrefixWritten n c since takes until takes_after written = (rest : List ℕ) ×
 
 -- ---- connections that are gone
 
--- To the connection of the n-th opening a prefix of what the messages send was written; all of it and each NOOP that was taken, where that is said.
+-- To the connection of the n-th opening a prefix of what the messages send was written; all of it and each NOOP that
+-- was taken, where that is said.
 pub record WrittenTo (n c : ℕ) (p : Past) : Type 0 where
   pub rest : List ℕ
   pub lost : ℕ
   pub is_written : IsWritten n c p.since p.takes p.until p.takes_after lost p.log rest
   pub whole : p.is_whole ≡ true → (rest ≡ []) × (lost ≡ 0)
 
--- Each connection was written a prefix of what the pen was given at its opening: the last of them at the first one, each before it at the next. The
--- first began when the pen had taken no NOOP and seen nothing of the history, each next one where the one before it ended, and the last ended here.
+-- Each connection was written a prefix of what the pen was given at its opening: the last of them at the first one,
+-- each before it at the next. The first began when the pen had taken no NOOP and seen nothing of the history, each next
+-- one where the one before it ended, and the last ended here.
 abbrev pub ArePast : ℕ → List Past → List Entry → ℕ → Type 0
 ArePast c [] seen takes = (seen ≡ []) × (takes ≡ 0)
 ArePast c (p ∷ older) seen takes = (seen ≡ p.until) × (takes ≡ p.takes_after) × WrittenTo (length older + 1) c p × ArePast c older p.since p.takes
 
--- Since each of them went, the pen was given nothing more at its opening, to which its half of a socket was assigned.
+-- Since each of them went, the pen was given nothing more at its opening.
 abbrev pub AreOver : ℕ → List Past → List Entry → Type 0
 AreOver c [] seen = Unit {0}
-AreOver c (p ∷ older) seen = (drains_at (length older + 1) c seen ≡ drains_at (length older + 1) c p.until) × (p.of ≡ Some (c, length older + 1)) × AreOver c older seen
+AreOver c (p ∷ older) seen = (drains_at (length older + 1) c seen ≡ drains_at (length older + 1) c p.until) × AreOver c older seen
 
 abbrev pub no_sendings : Sendings
 no_sendings = record { past = []; since = []; takes = 0 }
 
--- a connection more is gone, whose half was assigned so, to which this was written, all of what was due or not
-abbrev pub closed : List Entry → ℕ → Option (ℕ × ℕ) → List ℕ → Bool → Sendings → Sendings
-closed seen takes of log is_whole sendings =
-    record { past = record { since = sendings.since; takes = sendings.takes; until = seen; takes_after = takes; of = of; log = log; is_whole = is_whole } ∷ sendings.past; since = seen; takes = takes }
+-- a connection more is gone, to whose socket this was written, all of what was due or not
+abbrev pub closed : List Entry → ℕ → ℤ → List ℕ → Bool → Sendings → Sendings
+closed seen takes socket log is_whole sendings =
+    record { past = record { since = sendings.since; takes = sendings.takes; until = seen; takes_after = takes; socket = socket; log = log; is_whole = is_whole } ∷ sendings.past; since = seen; takes = takes }
+
+-- the connections that are gone went through these sockets
+abbrev pub WentThrough : List Past → List (ℤ × Bool) → Type 0
+WentThrough [] [] = Unit {0}
+WentThrough (p ∷ older) (passed ∷ before) = (p.socket ≡ passed.0) × WentThrough older before
+WentThrough past passed = ⊥

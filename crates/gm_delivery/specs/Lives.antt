@@ -14,7 +14,8 @@ abbrev pub most_time : Bool → ℕ
 most_time false = 30_000
 most_time true = 2_000
 
--- what is to be done in this state, where the time is over or not, something is left to be sent or not, and the input ended or not
+-- what is to be done in this state, where the time is over or not, something is left to be sent or not, and the input
+-- ended or not
 abbrev pub deed_of : OutboundState → Bool → Bool → Bool → Deed
 deed_of Open false true ended = Send
 deed_of state over left true = LetGo

@@ -1,45 +1,55 @@
 -- What is sent to a slot's connection, and what is known of all that was.
-use Rattle.std.specs.Prelude.{◌≡◌, ◌<◌, ◌+◌, ◌==◌, ◌&&◌, ◌||◌, ℕ, Bool, true, false, if◌then◌else◌, not, MatchBool, List, [], ◌++◌, length, Option, Some, None, is_some, Result, Ok, Err}
+use Rattle.std.specs.Prelude.{◌≡◌, ◌<◌, ◌+◌, ◌-◌, ◌==◌, ◌&&◌, ◌||◌, ℕ, ℤ, nat_lt, Bool, true, false, if◌then◌else◌, not, MatchBool, List, [], ◌∷◌, ◌++◌, length, Option, Some, None, is_some, Result, Ok, Err}
+use Rattle.gm_feeder.specs.declared.source.Answer.{Answer}
+use Rattle.gm_feeder.specs.declared.source.Answer.TheVariants.{Moved, Failed}
 use Rattle.gm_notes.specs.Settings.{Settings}
 use Rattle.gm_notes.specs.declared.event.ApplyError.{ApplyError}
 use Rattle.gm_shared.specs.declared.receipt.Drained.{Drained}
 use Rattle.gm_shared.specs.declared.tape.Entry.{Entry}
 use Rattle.gm_shared.specs.Calls.{PenCalled}
 use Rattle.gm_shared.specs.Openings.{most_openings}
+use Rattle.gm_shared.specs.Pairings.{SideState, passed_with}
 use Rattle.gm_delivery.specs.declared.account.Sendings.{Sendings}
 use Rattle.gm_delivery.specs.declared.account.Past.{Past}
 use Rattle.gm_delivery.specs.declared.life.Deed.{Deed}
-use Rattle.gm_delivery.specs.declared.life.Deed.TheVariants.{Serve, HangUp}
+use Rattle.gm_delivery.specs.declared.life.Deed.TheVariants.{Serve, Send, Linger, HangUp, LetGo}
 use Rattle.gm_delivery.specs.declared.life.OutboundState.{OutboundState}
 use Rattle.gm_delivery.specs.declared.life.OutboundState.TheVariants.{Open, Finished, Cut}
+use Rattle.gm_delivery.specs.declared.sender.Delivered.{Delivered}
+use Rattle.gm_delivery.specs.declared.writing.Sent.TheVariants as sent
 use Rattle.gm_delivery.specs.Lives.{deed_of, state_if, cut_state}
-use Rattle.gm_delivery.specs.Messages.{message_of}
-use Rattle.gm_delivery.specs.Accounts.{drains_at, IsWritten, IsPrefixWritten, ArePast, AreOver, closed}
+use Rattle.gm_delivery.specs.Messages.{message_of, LastSays, IsWhy}
+use Rattle.gm_delivery.specs.Accounts.{drains_at, IsWritten, IsPrefixWritten, ArePast, AreOver, WentThrough, closed}
 
--- a connection: how far the sending to it is, and all that was written to it
+-- a connection: how far the sending to it is, its socket, all that was written to it, what each call answered, the
+-- newest first, and whether its time is over
 pub record Outbound : Type 0 where
   pub state : OutboundState
+  pub socket : ℤ
   pub log : List ℕ
+  pub answers : List Answer
+  pub over : Bool
 
--- the pen's slot, how many connections began there, the slot and opening to which the last one's half of a socket was assigned, what the pen has seen of
--- the history, how many NOOPs it took and how often it tried; what is left to be sent, to which connection, and the account of those that are gone
+-- the pen's slot, how many connections began there, what the pen has seen of the history, how many NOOPs it took and
+-- how often it tried; what is left to be sent, to which connection, what the side that writes knows of the slot's
+-- sockets, and the account of the connections that are gone
 pub record SenderState : Type 0 where
   pub slot : ℕ
   pub openings : ℕ
-  pub of : Option (ℕ × ℕ)
   pub seen : List Entry
   pub takes : ℕ
   pub tries : ℕ
   pub left : List ℕ
   pub outbound : Option Outbound
+  pub side : SideState
   pub sendings : Sendings
 
 -- the opening of the connection that is there, or of the next one
 abbrev pub present : SenderState → ℕ
 present s = length s.sendings.past + 1
 
--- What was written to the connection, and then what is left, is what the pen is given at its opening, which a count of 64 bits can tell; where the
--- sending is finished, it is all of that, and where it broke off, a prefix.
+-- What was written to the connection, and then what is left, is what the pen is given at its opening, which a count of
+-- 64 bits can tell; where the sending is finished, it is all of that, and where it broke off, a prefix.
 abbrev pub IsOutboundSo : SenderState → List ℕ → OutboundState → Type 0
 IsOutboundSo s log Open = IsWritten (present s) s.slot s.sendings.since s.sendings.takes s.seen s.takes 0 log s.left × (s.openings ≡ present s) × (s.openings < most_openings)
 IsOutboundSo s log Finished = IsWritten (present s) s.slot s.sendings.since s.sendings.takes s.seen s.takes 0 log [] × (s.left ≡ [])
@@ -55,21 +65,27 @@ abbrev pub began : Option Outbound → List Past → ℕ
 began None past = length past
 began (Some outbound) past = length past + 1
 
--- Each connection that began is counted, the one that is there is of the last opening, and at the openings of those that are gone the pen is given no more, unless the count can't tell. At later
--- openings it was given nothing yet.
+-- the connection that is there goes through the last of these sockets, and those that are gone went through the others
+abbrev pub GoesThrough : Option Outbound → List Past → List (ℤ × Bool) → Type 0
+GoesThrough None past passed = WentThrough past passed
+GoesThrough (Some outbound) past passed = (is_served : Bool) × (before : List (ℤ × Bool)) × (passed ≡ (outbound.socket, is_served) ∷ before) × WentThrough past before
+
+-- Each connection that began is counted, and at the openings of those that are gone the pen is given no more, unless
+-- the count can't tell. At later openings it was given nothing yet. The side that writes was handed the sockets of the
+-- connections.
 pub record IsSender (s : SenderState) : Type 0 where
   pub past : ArePast s.slot s.sendings.past s.sendings.since s.sendings.takes
   pub counted : s.openings < most_openings → (s.openings ≡ began s.outbound s.sendings.past) × AreOver s.slot s.sendings.past s.seen
-  pub own : s.openings < most_openings → is_some s.outbound ≡ true → s.of ≡ Some (s.slot, s.openings)
   pub unused : (n : ℕ) → s.openings < n → n < most_openings → drains_at n s.slot s.seen ≡ []
   pub outbound : IsOutbound s s.outbound
+  pub side : GoesThrough s.outbound s.sendings.past s.side.passed
 
 -- ---- a connection
 
 -- it can't be sent to any more
 abbrev pub cut : Option Outbound → Option Outbound
 cut None = None
-cut (Some outbound) = Some record { state = cut_state outbound.state; log = outbound.log }
+cut (Some outbound) = Some record outbound { state = cut_state outbound.state }
 
 -- whether there is a connection that can be sent to
 abbrev pub can_send : OutboundState → Bool
@@ -87,19 +103,38 @@ is_clear s = is_open s.outbound && (length s.left == 0)
 
 -- ---- the present message
 
+-- whether the last call took all, so that the next one may take some at once
+abbrev pub took_all : List Answer → Bool
+took_all [] = true
+took_all (Moved count size ∷ earlier) = count == size
+took_all (Failed kind ∷ earlier) = false
+
+abbrev pub took_all_in : Option Outbound → Bool
+took_all_in None = false
+took_all_in (Some outbound) = took_all outbound.answers
+
+-- Why not all is written: the sending breaks off only for what the last call answered; some is left for that, or
+-- because the connection's time is over, or eight writes were made in a row.
+abbrev pub IsLeftFor : Bool → List ℕ → Bool → List Answer → Type 0
+IsLeftFor true rest over calls = LastSays calls sent.Failed
+IsLeftFor false [] over calls = Unit {0}
+IsLeftFor false (b ∷ rest) over calls = IsWhy sent.Some over calls
+
 -- A part of what was left was written; the rest is left, or the sending broke off, as not all could be written.
-pub record SendsPart (log left : List ℕ) (now : Outbound) (left_now : List ℕ) : Type 0 where
+pub record SendsPart (outbound : Outbound) (left : List ℕ) (now : Outbound) (left_now : List ℕ) : Type 0 where
   pub part : List ℕ
   pub rest : List ℕ
   pub whole : left ≡ part ++ rest
   pub breaks_off : Bool
   pub some_left : breaks_off ≡ true → rest ≡ [] → ⊥
-  pub outbound_is : now ≡ record { state = if breaks_off then Cut else Open; log = log ++ part }
+  pub calls : List Answer
+  pub why : IsLeftFor breaks_off rest now.over calls
+  pub now_is : now ≡ record { state = if breaks_off then Cut else Open; socket = outbound.socket; log = outbound.log ++ part; answers = calls ++ outbound.answers; over = now.over }
   pub left_is : left_now ≡ (if breaks_off then [] else rest)
 
 -- What is left for a connection is sent, if it can be sent to.
 abbrev pub Sends : OutboundState → Outbound → List ℕ → Outbound → List ℕ → Type 0
-Sends Open outbound left now left_now = SendsPart outbound.log left now left_now
+Sends Open outbound left now left_now = SendsPart outbound left now left_now
 Sends state outbound left now left_now = (now ≡ outbound) × (left_now ≡ left)
 
 abbrev pub SendsTo : Option Outbound → SenderState → SenderState → Type 0
@@ -111,7 +146,8 @@ SendsLeft old new = SendsTo old.outbound old new
 
 -- ---- what the pen gives
 
--- What it gave for the connection is left to be sent; from where on it gives what waits for another opening, no connection can be told from another.
+-- What it gave for the connection is left to be sent; from where on it gives what waits for another opening, no
+-- connection can be told from another.
 abbrev pub refilled : Bool → Result Drained ApplyError → SenderState → SenderState
 refilled took (Ok drained) s = if drained.opening == s.openings then record s { left = message_of took drained.bytes.bytes } else record s { openings = most_openings; outbound = cut s.outbound }
 refilled took (Err error) s = record s { outbound = cut s.outbound }
@@ -134,7 +170,7 @@ pub record Refills (k : Settings) (taped : Bool) (is_shut : Option Bool) (old ne
 
 abbrev pub finished_outbound : Option Outbound → Option Outbound
 finished_outbound None = None
-finished_outbound (Some outbound) = Some record { state = Finished; log = outbound.log }
+finished_outbound (Some outbound) = Some record outbound { state = Finished }
 
 -- no more is sent
 abbrev pub finished : SenderState → SenderState
@@ -150,55 +186,96 @@ GoesOn false k taped ends sent new = new ≡ sent
 GoesOn true k taped ends sent new = (is_shut : Option Bool) × (given : SenderState) × Refills k taped is_shut sent given × SendsGiven is_shut ends given new
 
 -- What was left is sent. If all of it was, the pen is asked for more.
-pub record Delivers (k : Settings) (taped ends : Bool) (old new : SenderState) : Type 0 where
+pub record Transmits (k : Settings) (taped ends : Bool) (old new : SenderState) : Type 0 where
   pub sent : SenderState
   pub sends : SendsLeft old sent
   pub goes_on : GoesOn (is_clear sent) k taped ends sent new
 
--- ---- the end of a connection, and the beginning
+-- Only where the sending is finished the time is looked at.
+abbrev pub Looked : Outbound → Bool → Type 0
+Looked outbound over = (outbound.state ≡ Finished → ⊥) → over ≡ outbound.over
 
--- The connection is sent nothing more, and nothing is left for it.
+abbrev pub LookedAt : Option Outbound → Option Outbound → Type 0
+LookedAt None now = now ≡ None
+LookedAt (Some outbound) now = (over : Bool) × Looked outbound over × (now ≡ Some record outbound { over = over })
+
+-- what is to be done next, where something is left for it or not, and its input ended or not; nothing where there is no
+-- connection
+abbrev pub deed_for : Option Outbound → Bool → Bool → Deed
+deed_for None clear ended = Serve
+deed_for (Some outbound) clear ended = deed_of outbound.state outbound.over (not clear) ended
+
+abbrev pub deed_after : SenderState → Bool → Deed
+deed_after s ended = deed_for s.outbound (is_clear s) ended
+
+-- the connection is sent nothing more, and nothing is left for it
 abbrev pub cut_off : SenderState → SenderState
 cut_off s = record s { left = []; outbound = cut s.outbound }
-
--- what is to be done next, where its time is over or not, and its input ended or not; nothing where there is no connection
-abbrev pub deed_for : Option Outbound → Bool → Bool → Bool → Deed
-deed_for None clear over ended = Serve
-deed_for (Some outbound) clear over ended = deed_of outbound.state over (not clear) ended
-
-abbrev pub deed_after : SenderState → Bool → Bool → Deed
-deed_after s over ended = deed_for s.outbound (is_clear s) over ended
 
 -- what is to be done next is left to others, but for hanging up
 abbrev pub next_by : Deed → SenderState → SenderState
 next_by HangUp s = cut_off s
 next_by deed s = s
 
+-- the time is looked at, and what is to be done next is said; hanging up is done
+pub record Decides (has_ended : Bool) (deed : Deed) (old new : SenderState) : Type 0 where
+  pub looked : SenderState
+  pub looks : LookedAt old.outbound looked.outbound
+  pub looked_is : looked ≡ record old { outbound = looked.outbound }
+  pub deed_is : deed ≡ deed_after looked has_ended
+  pub after : new ≡ next_by deed looked
+
+-- the lane may be given up: nothing is left to do until it is touched again
+abbrev pub may_rest : Deed → Bool
+may_rest Serve = true
+may_rest HangUp = true
+may_rest Send = false
+may_rest Linger = false
+may_rest LetGo = false
+
+-- a delivery is over where nothing is left to do; otherwise it is said what is
+abbrev pub IsDeliveredFor : Result Delivered Deed → Deed → Type 0
+IsDeliveredFor (Ok delivered) deed = may_rest deed ≡ true
+IsDeliveredFor (Err left) deed = (left ≡ deed) × (may_rest deed ≡ false)
+
+-- What was left, and then what waits, is sent, and then it is decided what is to be done next.
+pub record Delivers (k : Settings) (taped ends has_ended : Bool) (result : Result Delivered Deed) (old new : SenderState) : Type 0 where
+  pub sent : SenderState
+  pub transmits : Transmits k taped ends old sent
+  pub deed : Deed
+  pub decides : Decides has_ended deed sent new
+  pub result_is : IsDeliveredFor result deed
+
+-- ---- the end of a connection, and the beginning
+
 abbrev pub sendings_without : SenderState → Option Outbound → Bool → Sendings
 sendings_without s None is_whole = s.sendings
-sendings_without s (Some outbound) is_whole = closed s.seen s.takes s.of outbound.log is_whole s.sendings
+sendings_without s (Some outbound) is_whole = closed s.seen s.takes outbound.socket outbound.log is_whole s.sendings
 
-abbrev pub if_whole : Option Bool → Bool
-if_whole None = false
-if_whole (Some is_whole) = is_whole
+-- whether all that was due was written: what is finished is whole, and what goes on is where nothing is left
+abbrev pub whole_in : OutboundState → List ℕ → Bool
+whole_in Open left = length left == 0
+whole_in Finished left = true
+whole_in Cut left = false
 
--- The connection, if there was one, is gone, and entered with all that was written to it, and whether that was all that was due.
-pub record IsLetGo (result : Option Bool) (old new : SenderState) : Type 0 where
-  pub after : new ≡ record old { left = []; outbound = None; sendings = sendings_without old old.outbound (if_whole result) }
-  pub there : is_some result ≡ is_some old.outbound
+abbrev pub whole_of : Option Outbound → List ℕ → Bool
+whole_of None left = false
+whole_of (Some outbound) left = whole_in outbound.state left
 
--- A half was assigned to the opening of this slot that comes after this many, where a count of 64 bits can tell it from the one after it.
-abbrev pub IsNext : Option (ℕ × ℕ) → ℕ → ℕ → Type 0
-IsNext of slot openings = (of ≡ Some (slot, openings + 1)) × (openings + 1 < most_openings)
+-- the connection, if there is one, is gone, and entered with all that was written to it, and whether that was all that
+-- was due
+abbrev pub let_go_of : SenderState → SenderState
+let_go_of s = record s { left = []; outbound = None; sendings = sendings_without s s.outbound (whole_of s.outbound s.left) }
 
--- its connection begins exactly then, and once one doesn't none does
-abbrev pub BeginsIf : Bool → Option (ℕ × ℕ) → ℕ → ℕ → ℕ → Type 0
-BeginsIf true of slot old new = IsNext of slot old × (new ≡ old + 1)
-BeginsIf false of slot old new = (IsNext of slot old → ⊥) × (new ≡ most_openings)
+-- whether the next opening can be told from the one after it, by a count of 64 bits
+abbrev pub can_begin : ℕ → Bool
+can_begin openings = nat_lt openings (most_openings - 1)
 
--- The connection is there whose half was assigned so: it can be sent to, or, where that isn't the next opening, it is cut.
-pub record IsBegun (begins : Bool) (of : Option (ℕ × ℕ)) (old new : SenderState) : Type 0 where
-  pub begins_if : BeginsIf begins of old.slot old.openings new.openings
-  pub of_is : new.of ≡ of
-  pub outbound : new.outbound ≡ Some record { state = state_if begins; log = [] }
-  pub lets_go : (whole : Option Bool) × IsLetGo whole old (record new { openings = old.openings; of = old.of; outbound = None })
+-- A connection came: it is of the next opening. It can be sent to, unless a count of 64 bits can't tell that opening
+-- from the one after it; then it is cut, and so is each that comes after it.
+abbrev pub begun : ℤ → List ℕ → Bool → SenderState → SenderState
+begun socket log is_served s = record s {
+  openings = if can_begin s.openings then s.openings + 1 else most_openings;
+  side = passed_with (Some (socket, is_served)) s.side;
+  outbound = Some (record { state = state_if (can_begin s.openings); socket = socket; log = log; answers = []; over = false });
+}

@@ -1,9 +1,11 @@
 //! What a delivery leaves to do.
 
-ghost use Rattle.std.specs.Prelude.{◌≡◌};
+ghost use Rattle.std.specs.Prelude.{◌≡◌, Some, IsSome};
 ghost use Rattle.std.specs.Fn.{FnOnceReturns};
+ghost use Rattle.gm_delivery.specs.Leftovers.{finish_of, HandsOver};
 
 use gm_feeder::Patience;
+use gm_lane_word::Tally;
 
 /// Which thread delivers.
 #[derive(Clone, Copy)]
@@ -16,12 +18,11 @@ pub enum Deliverer {
     Other,
 }
 
-/// What came of a delivery.
+/// What a delivery left to do.
 #[derive(Clone, Copy, PartialEq, Eq)]
 pub enum Finish {
-    /// The finisher has nothing to do until it is woken.
-    Idle,
-    /// The finisher is to come again: once the socket takes bytes, and in a while, as the connection's time may be over then.
+    /// The finisher is to come again: once the socket takes bytes, and in a while, as the connection's time may be over
+    /// then.
     Pending,
     /// The finisher is to be woken.
     Again,
@@ -29,35 +30,61 @@ pub enum Finish {
     Gone,
 }
 
-/// What a lane leaves to do. It can't be dropped: `settle` has the lane's finisher woken, if it is to come and doesn't know that.
+/// What a thread leaves to do of a slot's lane, and what it did there, if it did something. It can't be dropped:
+/// `settle` has the lane's finisher woken, if it is to come and doesn't know that. A lane that was handed over asks for
+/// its finisher.
 pub struct Leftover {
     slot: u32,
-    finish: Finish,
+    /// None: the finisher has nothing to do until it is woken.
+    finish: Option<Finish>,
+    tally: Option<Tally>,
+    ghost asks: { HandsOver tally → IsSome finish },
 }
 
 impl Leftover {
-    /// What this thread leaves of the slot's lane.
-    pub(crate) fn new(slot: u32, finish: Finish, deliverer: Deliverer) -> Leftover
-        ensures { result.slot ≡ slot }
+    /// What this thread leaves of the slot's lane, after it did this there.
+    pub(crate) fn new(
+        slot: u32,
+        finish: Option<Finish>,
+        deliverer: Deliverer,
+        tally: Option<Tally>,
+    ) -> Leftover
+        requires { HandsOver tally → IsSome finish }
+        ensures slot { result.slot ≡ slot }
+        ensures finish { result.finish ≡ finish_of finish deliverer }
+        ensures tally { result.tally ≡ tally }
     {
         // Modelled in models/lane.h.
-        let finish = match (finish, deliverer) {
-            (Finish::Pending, Deliverer::Reader | Deliverer::Other) => Finish::Again,
+        let finish = match finish {
+            Some(Finish::Pending) => match deliverer {
+                Deliverer::Finisher(_) => Some(Finish::Pending),
+                Deliverer::Reader => Some(Finish::Again),
+                Deliverer::Other => Some(Finish::Again),
+            },
             _ => finish,
         };
-        Leftover { slot, finish }
+        Leftover {
+            slot,
+            finish,
+            tally,
+        }
     }
 
-    /// Says what came of the delivery. If the slot's finisher is to be woken, `wake` is called with the slot.
-    pub fn settle<F: FnOnce(u32)>(self, wake: F) -> Finish
+    /// Says what is left to do. If the slot's finisher is to be woken, `wake` is called with the slot.
+    pub fn settle<F: FnOnce(u32)>(self, wake: F) -> Option<Finish>
         requires { F.FnOnce.pre wake (self.slot, tt) }
         ensures finish { result ≡ self.finish }
-        ensures woken { self.finish ≡ Finish.Again → FnOnceReturns F.FnOnce wake (self.slot, tt) tt }
+        ensures woken { self.finish ≡ Some Finish.Again → FnOnceReturns F.FnOnce wake (self.slot, tt) tt }
     {
         // Modelled in models/lane.h.
-        let Leftover { slot, finish } = self;
-        if finish == Finish::Again {
-            wake(slot);
+        let Leftover {
+            slot,
+            finish,
+            tally: _,
+        } = self;
+        match finish {
+            Some(Finish::Again) => wake(slot),
+            _ => {}
         }
         finish
     }

@@ -1,19 +1,21 @@
 //! The way of a slot's bytes to its connection's socket, which threads share.
 
-ghost use Rattle.std.specs.Prelude.{◌≡◌, ◌<◌, [], length, IfOk};
+ghost use Rattle.std.specs.Prelude.{◌≡◌, ◌<◌, [], length, Some, true, false, IfSome, IsSome, IfOk, MatchBool, MatchOption};
+ghost use Rattle.std.specs.Net.Tcp.{stream_raw_fd};
 ghost use Rattle.gm_shared.specs.Openings.{most_openings};
-ghost use Rattle.gm_delivery.specs.Accounts.{ArePast, AreOver};
+ghost use Rattle.gm_shared.specs.Pairings.{passed_with};
+ghost use Rattle.gm_delivery.specs.Accounts.{ArePast, AreOver, WentThrough};
+ghost use Rattle.gm_delivery.specs.Leftovers.{Tried, TriesOver, TriedOver, TriedLeft, Left, Attempted};
 
-use crate::account::Ledger;
 use crate::finish::{Deliverer, Finish, Leftover};
 use crate::life::Deed;
-use crate::sender::{Delivered, Sender};
-use crate::socket::WriteHalf;
+use crate::sender::{Delivered, LaneParts, Sender};
 use crate::stage::{ServerStage, Stage};
 use gm_feeder::Patience;
-use gm_lane_word::{Attempt, Claim, Due, LaneWord};
+use gm_lane_word::{Attempt, Claim, Due, LaneWord, Tally};
 use gm_report::Speaker;
-use gm_shared::{BookName, Pen, Shared};
+use gm_shared::{BookName, PairSide, Pairing, Pen, Shared};
+use gm_socket::{LoggedWriter, Socket};
 use std::alloc::{AllocError, Global};
 use std::sync::{Mutex, Wait};
 use std::time::Clock;
@@ -27,7 +29,8 @@ const MUST_END: u8 = 1;
 /// The same, and it is let go of then, as nothing is read from it any more.
 const INPUT_ENDED: u8 = 2;
 
-/// What is around a delivery: the book in which waits what is to be sent, how far the server is, and whom it tells of peers that vanished.
+/// What is around a delivery: the book in which waits what is to be sent, how far the server is, and whom it tells of
+/// peers that vanished.
 #[derive(Clone, Copy)]
 pub struct DeliveryContext<'s, K: BookName, R> {
     pub rt: &'s R,
@@ -60,8 +63,8 @@ impl<'a, K: BookName, R> Writing<'a, K, R> {
     }
 }
 
-/// What a slot has for what its connections are sent. What is to be sent is with the thread that has the lane, so its lock is waited
-/// for only where a connection comes.
+/// What a slot has for what its connections are sent. What is to be sent is with the thread that has the lane, so its
+/// lock is waited for only where a connection comes.
 #[derive(Drop)]
 pub struct Lane<K: BookName> {
     slot: u32,
@@ -73,16 +76,17 @@ pub struct Lane<K: BookName> {
 }
 
 impl<K: BookName> Lane<K> {
-    /// A lane with this pen, which was given nothing yet, and no connection.
-    pub fn new(alloc: Global, pen: Pen<K>) -> Result<Lane<K>, AllocError>
-        requires { (pen.witness.seen ≡ []) × (pen.seat.takes ≡ 0) }
+    /// A lane with this pen, which was given nothing yet, the side of its slot that writes, and no connection.
+    pub fn new(alloc: Global, pen: Pen<K>, side: PairSide<K>) -> Result<Lane<K>, AllocError>
+        requires pen { (pen.witness.seen ≡ []) × (pen.seat.takes ≡ 0) }
+        requires side { side.passed ≡ [] }
         ensures { IfOk result (λ lane. lane.slot ≡ pen.slot) }
     {
         // Modelled in models/lane.h.
         Ok(Lane {
             slot: pen.slot(),
             word: LaneWord::new(alloc)?,
-            sender: Mutex::new(Sender::new(alloc, pen)?),
+            sender: Mutex::new(Sender::new(alloc, pen, side)?),
             asked: Stage::new(),
         })
     }
@@ -94,79 +98,102 @@ impl<K: BookName> Lane<K> {
         self.slot
     }
 
-    /// The slot's pen, the account of all its connections, and how many they are (`Sender::into_parts`).
-    pub fn into_parts(self) -> (Pen<K>, Ledger, u64)
-        ensures past { ArePast result.0.slot result.1.past result.0.witness.seen result.0.seat.takes }
-        ensures counted { result.2 < most_openings → (length result.1.past ≡ result.2) × AreOver result.0.slot result.1.past result.0.witness.seen }
+    /// The slot's pen, and the account of all its connections (`Sender::into_parts`).
+    pub fn into_parts(self) -> LaneParts<K>
+        ensures past { ArePast result.pen.slot result.ledger.past result.pen.witness.seen result.pen.seat.takes }
+        ensures counted { result.openings < most_openings → (length result.ledger.past ≡ result.openings) × AreOver result.pen.slot result.ledger.past result.pen.witness.seen }
+        ensures side { WentThrough result.ledger.past result.side.passed }
     {
         let Lane { sender, .. } = self;
         sender.into_inner().into_parts()
     }
 
-    /// Takes a connection, which is cut unless its half was assigned to the slot's next opening. The last one left the lane to its finisher, so a thread has to try before touches
-    /// count.
+    /// Takes a connection, whose socket is handed to both sides of its slot: none means that this isn't the other side,
+    /// and then there is no connection. The last one left the lane to its finisher, so a thread has to try before
+    /// touches count.
     pub fn open<R: Wait + Clock>(
         &self,
         context: &DeliveryContext<'_, K, R>,
-        half: WriteHalf,
-    ) -> Leftover
-        requires { half.socket.2 ≡ [] }
-        ensures { result.slot ≡ self.now.slot }
+        writing: LoggedWriter<Socket>,
+        reading: &mut PairSide<K>,
+        pairing: &mut Pairing<K>,
+    ) -> Option<Leftover>
+        requires unwritten { (writing.bytes ≡ []) × (writing.answers ≡ []) }
+        ensures paired { MatchOption result (reading.new ≡ reading.old) (λ _. reading.new ≡ passed_with (Some (stream_raw_fd writing.writer.stream.value, true)) reading.old) }
+        ensures tried { IfSome result (λ leftover. (leftover.slot ≡ self.now.slot) × TriedOver self.now.word leftover.tally) }
+        ensures slots { pairing.new ≡ pairing.old }
     {
         // Modelled in models/lane.h.
         self.asked.restart();
-        self.sender.lock(context.rt).begin(half);
+        if !self
+            .sender
+            .lock(context.rt)
+            .begin(writing, reading, pairing, true)
+        {
+            return None;
+        }
         match self.word.take_over() {
-            Ok(claim) => self.deliver_claimed(context, claim, Deliverer::Other),
-            Err(_) => self.left(Finish::Idle, Deliverer::Other),
+            Ok(claim) => Some(self.deliver_claimed(context, claim, Deliverer::Other)),
+            Err(tally) => Some(self.left(None, Deliverer::Other, tally)),
         }
     }
 
-    /// Takes a connection, and lets go of it at once, as nobody serves it.
-    pub fn refuse(&self, rt: &impl Wait, half: WriteHalf)
-        requires { half.socket.2 ≡ [] }
+    /// Takes a connection, and lets go of it at once, as nobody serves it. It says whether its socket could be handed
+    /// to both sides of its slot.
+    pub fn refuse(
+        &self,
+        rt: &impl Wait,
+        writing: LoggedWriter<Socket>,
+        reading: &mut PairSide<K>,
+        pairing: &mut Pairing<K>,
+    ) -> bool
+        requires unwritten { (writing.bytes ≡ []) × (writing.answers ≡ []) }
+        ensures paired { MatchBool result (reading.new ≡ passed_with (Some (stream_raw_fd writing.writer.stream.value, false)) reading.old) (reading.new ≡ reading.old) }
+        ensures slots { pairing.new ≡ pairing.old }
     {
         // Modelled in models/endings.pml and shutdown.pml.
-        self.sender.lock(rt).refuse(half);
+        self.sender.lock(rt).refuse(writing, reading, pairing)
     }
 
-    /// Tells the lane that there may be something to send, and sends it, unless another thread has the lane and so tries after
-    /// this.
+    /// Tells the lane that there may be something to send, and sends it, unless another thread has the lane and so
+    /// tries after this.
     pub fn touch<R: Wait + Clock>(&self, context: &DeliveryContext<'_, K, R>, due: Due) -> Leftover
         requires { due.slot ≡ self.now.slot }
-        ensures { result.slot ≡ self.now.slot }
+        ensures slot { result.slot ≡ self.now.slot }
+        ensures tried { Tried self.now.word result.tally }
     {
         // Modelled in models/lane.h.
         match self.word.touch(due) {
             Ok(claim) => self.deliver_claimed(context, claim, Deliverer::Other),
-            Err(_) => self.left(Finish::Idle, Deliverer::Other),
+            Err(tally) => self.left(None, Deliverer::Other, tally),
         }
     }
 
-    /// Tells the lane that there may be something to send, which is left to the finisher, or to the thread that tries anyway.
+    /// Tells the lane that there may be something to send, which is left to the finisher, or to the thread that tries
+    /// anyway.
     pub fn touch_for_finisher(&self, due: Due) -> Leftover
         requires { due.slot ≡ self.now.slot }
-        ensures { result.slot ≡ self.now.slot }
+        ensures slot { result.slot ≡ self.now.slot }
+        ensures left { Left self.now.word result.tally }
     {
         // Modelled in models/lane.h.
-        match self.word.touch(due) {
-            Ok(claim) => {
-                let _tally = claim.hand_over();
-                self.left(Finish::Again, Deliverer::Other)
-            }
+        match self.word.leave(due) {
+            Ok(tally) => self.left(Some(Finish::Again), Deliverer::Other, tally),
             // Another thread tries after this touch.
-            Err(_) => self.left(Finish::Idle, Deliverer::Other),
+            Err(tally) => self.left(None, Deliverer::Other, tally),
         }
     }
 
-    /// Asks for the connection's end, as its input ended or not, and goes on with that. The thread that reads from the connection calls it;
-    /// it has no effect if that was asked already. What can't be done at once is left to the finisher.
+    /// Asks for the connection's end, as its input ended or not, and goes on with that. The thread that reads from the
+    /// connection calls it; it has no effect if that was asked already. What can't be done at once is left to the
+    /// finisher.
     pub fn end<R: Wait + Clock>(
         &self,
         context: &DeliveryContext<'_, K, R>,
         has_input_ended: bool,
     ) -> Leftover
-        ensures { result.slot ≡ self.now.slot }
+        ensures slot { result.slot ≡ self.now.slot }
+        ensures tried { IfSome result.tally (TriesOver self.now.word) }
     {
         // Modelled in models/lane.h.
         let asked = if has_input_ended {
@@ -175,44 +202,48 @@ impl<K: BookName> Lane<K> {
             MUST_END
         };
         if !self.asked.rise(asked) {
-            return self.left(Finish::Idle, Deliverer::Reader);
+            return Leftover::new(self.slot, None, Deliverer::Reader, None);
         }
         self.deliver(context, Deliverer::Reader)
     }
 
-    /// Sends what there is to send, and does what else is to be done for the connection; or leaves that to the thread that has the lane,
-    /// which tries after this.
+    /// Sends what there is to send, and does what else is to be done for the connection; or leaves that to the thread
+    /// that has the lane, which tries after this.
     pub fn deliver<R: Wait + Clock>(
         &self,
         context: &DeliveryContext<'_, K, R>,
         deliverer: Deliverer,
     ) -> Leftover
-        ensures { result.slot ≡ self.now.slot }
+        ensures slot { result.slot ≡ self.now.slot }
+        ensures tried { TriedOver self.now.word result.tally }
     {
         // Modelled in models/lane.h.
         match self.word.take_over() {
             Ok(claim) => self.deliver_claimed(context, claim, deliverer),
-            Err(_) => self.left(Finish::Pending, deliverer),
+            Err(tally) => self.left(Some(Finish::Pending), deliverer, tally),
         }
     }
 
     /// The same as the finisher, which doesn't wait, where others left something to it.
     pub fn deliver_left<R: Wait + Clock>(&self, context: &DeliveryContext<'_, K, R>) -> Leftover
-        ensures { result.slot ≡ self.now.slot }
+        ensures slot { result.slot ≡ self.now.slot }
+        ensures tried { TriedLeft self.now.word result.tally }
     {
         // Modelled in models/lane.h.
         let finisher = Deliverer::Finisher(Patience::Hurries);
         match self.word.take_over_left() {
             Ok(claim) => self.deliver_claimed(context, claim, finisher),
-            Err(_) => self.left(Finish::Idle, finisher),
+            Err(tally) => self.left(None, finisher, tally),
         }
     }
 
-    /// What this thread leaves of the lane.
-    fn left(&self, finish: Finish, deliverer: Deliverer) -> Leftover
-        ensures { result.slot ≡ self.now.slot }
+    /// What this thread leaves of the lane, after it did this there.
+    fn left(&self, finish: Option<Finish>, deliverer: Deliverer, tally: Tally) -> Leftover
+        requires { 0 < tally.hand_overs → IsSome finish }
+        ensures slot { result.slot ≡ self.now.slot }
+        ensures tally { result.tally ≡ Some tally }
     {
-        Leftover::new(self.slot, finish, deliverer)
+        Leftover::new(self.slot, finish, deliverer, Some(tally))
     }
 
     /// Makes an attempt, and another where the lane was touched since.
@@ -222,32 +253,35 @@ impl<K: BookName> Lane<K> {
         claim: Claim<'a, Delivered>,
         deliverer: Deliverer,
     ) -> Leftover
-        requires { claim.lane ≡ self.now.word }
-        ensures { result.slot ≡ self.now.slot }
+        requires lane { claim.lane ≡ self.now.word }
+        requires untouched { claim.hand_overs ≡ 0 }
+        ensures slot { result.slot ≡ self.now.slot }
+        ensures tried { Attempted claim.entry result.tally }
     {
         // Modelled in models/lane.h.
         let mut claim = claim;
-        for _ in 0..MOST_ATTEMPTS {
+        let mut attempts_left = MOST_ATTEMPTS;
+        loop {
             let (attempt, outcome) = claim.attempt(|attempt| self.attempt(
                 context, attempt, deliverer,
             ));
-            match outcome {
-                Ok(delivered) => match attempt.finish(delivered) {
-                    Ok(_) => return self.left(Finish::Idle, deliverer),
-                    Err(again) => claim = again,
-                },
-                Err(finish) => {
-                    let _tally = attempt.hand_over();
-                    return self.left(finish, deliverer);
-                }
+            let delivered = match outcome {
+                Ok(delivered) => delivered,
+                Err(finish) => return self.left(Some(finish), deliverer, attempt.hand_over()),
+            };
+            claim = match attempt.finish(delivered) {
+                Ok(tally) => return self.left(None, deliverer, tally),
+                Err(again) => again,
+            };
+            attempts_left -= 1;
+            if attempts_left == 0 {
+                return self.left(Some(Finish::Again), deliverer, claim.hand_over());
             }
         }
-        let _tally = claim.hand_over();
-        self.left(Finish::Again, deliverer)
     }
 
-    /// Sends what there is to send, and does what else is to be done for the connection. An error means that the lane can't be given up, and says
-    /// what is left to do.
+    /// Sends what there is to send, and does what else is to be done for the connection. An error means that the lane
+    /// can't be given up, and says what is left to do.
     fn attempt<R: Wait + Clock>(
         &self,
         context: &DeliveryContext<'_, K, R>,
@@ -267,22 +301,26 @@ impl<K: BookName> Lane<K> {
             asked: &self.asked,
             patience,
         };
-        // Under the lock, so that it is asked of this connection; and first, so that all is sent that was queued before its end was
-        // asked for.
+        // Under the lock, so that it is asked of this connection; and first, so that all is sent that was queued before
+        // its end was asked for.
         let has_ended = self.asked.has_reached(INPUT_ENDED);
         let ends = by.is_ending() && !has_ended;
-        let delivered = sender.deliver(context.rt, context.shared, &by, ends);
-        match sender.next(&by, &delivered, has_ended) {
-            Deed::Serve | Deed::HangUp => Ok(delivered),
-            // A write that may wait has waited. The system reports that a socket takes bytes again only after one that it took in part.
-            Deed::Send if patience == Patience::Waits || sender.takes_more() => Err(Finish::Again),
-            Deed::Send | Deed::Linger => Err(Finish::Pending),
-            // A thread that only queued something leaves that to the finisher.
-            Deed::LetGo if matches!(deliverer, Deliverer::Other) => Err(Finish::Pending),
-            Deed::LetGo => {
-                sender.let_go(delivered);
-                Err(Finish::Gone)
+        match sender.deliver(&by, ends, has_ended) {
+            Ok(delivered) => Ok(delivered),
+            // A write that may wait has waited. The system reports that a socket takes bytes again only after one that
+            // it took in part.
+            Err(Deed::Send) if patience == Patience::Waits || sender.takes_more() => {
+                Err(Finish::Again)
             }
+            // A thread that only queued something leaves that to the finisher.
+            Err(Deed::LetGo) => match deliverer {
+                Deliverer::Other => Err(Finish::Pending),
+                Deliverer::Finisher(_) | Deliverer::Reader => {
+                    sender.let_go(has_ended);
+                    Err(Finish::Gone)
+                }
+            },
+            Err(_) => Err(Finish::Pending),
         }
     }
 }

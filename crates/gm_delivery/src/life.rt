@@ -3,7 +3,7 @@
 ghost use Rattle.std.specs.Prelude.{◌≡◌, ◌≤◌, ◌↔◌, ◌*◌, ◌-◌, ◌^◌, min, IsTrue, if◌then◌else◌, false};
 ghost use Rattle.gm_delivery.specs.Lives.{deed_of, later, most_time, state_if};
 
-use gm_report::{ENDING_TIME_MS, MOST_ENDING_TIME_MS};
+use gm_time::{ENDING_TIME_MS, MOST_ENDING_TIME_MS};
 
 /// How far the sending to a connection is.
 #[derive(Clone, Copy, PartialEq, Eq)]
@@ -23,8 +23,8 @@ pub enum Deed {
     Serve,
     /// What is left is sent, once its peer takes more.
     Send,
-    /// Its peer was told that no more is sent. What it still sends is read and dropped for a while: closing a socket before that would have
-    /// the system forget what the peer hasn't read yet.
+    /// Its peer was told that no more is sent. What it still sends is read and dropped for a while: closing a socket
+    /// before that would have the system forget what the peer hasn't read yet.
     Linger,
     /// It is sent nothing more, and its reader is to find its end.
     HangUp,
@@ -40,8 +40,8 @@ pub struct Life {
     until: u64,
     /// When it is over whatever its peer takes.
     last: u64,
-    /// Its time is over: it takes no more.
-    pub(crate) is_over: bool,
+    /// Its time is over: it takes no more. Only `look` says so.
+    is_over: bool,
 }
 
 impl Life {
@@ -63,7 +63,15 @@ impl Life {
         }
     }
 
-    /// Looks at the time, where it is to end: while its peer takes some it has more, but no more in all, and none where the server stops.
+    /// Whether its time is over.
+    pub(crate) fn is_over(&self) -> bool
+        ensures { result ≡ self.now.is_over }
+    {
+        self.is_over
+    }
+
+    /// Looks at the time, where it is to end: while its peer takes some it has more, but no more in all, and none where
+    /// the server stops.
     pub(crate) fn look(&mut self, now: u64, is_stopping: bool, has_taken: bool)
         ensures state { self.new.state ≡ self.old.state }
         ensures until { self.new.until ≡ min (later now 2_000) (if has_taken then later now 2_000 else self.old.until) }

@@ -1,15 +1,16 @@
 //! A message, which is sent in several writes where its peer is slow.
 
-ghost use Rattle.std.specs.Prelude.{◌≡◌, ◌<◌, ◌≤◌, ℕ, List, [], ◌++◌, length};
+ghost use Rattle.std.specs.Prelude.{◌≡◌, ◌<◌, ◌≤◌, ◌==◌, ℕ, List, [], ◌++◌, length};
 
-use crate::wire::Wire;
 use crate::writing::{Sent, noop_if, write_once};
 use gm_bytes::ByteQueue;
+use gm_socket::Wire;
 
 /// The most bytes that are handed to the socket in one write: so long a write may wait while its peer reads slowly.
 const MOST_WRITTEN: usize = 262_144;
 
-/// The most writes of a message in a row, so that whoever sends sees in between whether the connection is to end.
+/// The most writes of a message in a row, before that of its NOOP, so that whoever sends sees in between whether the
+/// connection is to end.
 const MOST_WRITES: u32 = 8;
 
 /// What is being sent: drained bytes, and then a NOOP where one was taken.
@@ -25,7 +26,7 @@ pub struct Message {
 }
 
 impl Message {
-    ghost use Rattle.gm_delivery.specs.Messages.{message_of, noop_left, unsent, SendsPrefix};
+    ghost use Rattle.gm_delivery.specs.Messages.{message_of, noop_left, unsent, SendsPrefix, WritesOnce, IsReason};
 
     /// These bytes, and a NOOP where one was taken.
     pub fn new(bytes: ByteQueue, took: bool) -> Message
@@ -36,6 +37,13 @@ impl Message {
             took,
             noop_sent: 0,
         }
+    }
+
+    /// Whether all of it is sent.
+    pub(crate) fn is_empty(&self) -> bool
+        ensures { result ≡ (length (unsent self.now) == 0) }
+    {
+        self.bytes.is_empty() && self.noop().is_empty()
     }
 
     /// What isn't sent yet of the NOOP.
@@ -55,9 +63,12 @@ impl Message {
         &first[..first.len().min(MOST_WRITTEN)]
     }
 
-    /// Sends what isn't sent yet, the bytes in as many writes as it takes, and then the NOOP. After `MOST_WRITES` the rest waits.
+    /// Sends what isn't sent yet, the bytes in as many writes as it takes, and then the NOOP. After `MOST_WRITES` the
+    /// rest waits.
     pub fn send<E, W: Wire<E>>(&mut self, w: &mut W, by: &E) -> Sent
-        ensures { SendsPrefix result (W.contents w.old) (W.contents w.new) (unsent self.old) (unsent self.new) }
+        ensures sends { SendsPrefix result (W.contents w.old) (W.contents w.new) (unsent self.old) (unsent self.new) }
+        ensures reason { IsReason result (W.is_over w.new) (W.answers w.old) (W.answers w.new) }
+        ensures socket { W.socket w.new ≡ W.socket w.old }
     {
         // Modelled in models/lane.h.
         let mut writes_left = MOST_WRITES;
@@ -83,7 +94,9 @@ impl Message {
     /// Sends what isn't sent yet of the NOOP, where all of the bytes are.
     fn send_noop<E, W: Wire<E>>(&mut self, w: &mut W, by: &E) -> Sent
         requires { self.old.bytes.bytes ≡ [] }
-        ensures { SendsPrefix result (W.contents w.old) (W.contents w.new) (unsent self.old) (unsent self.new) }
+        ensures sends { SendsPrefix result (W.contents w.old) (W.contents w.new) (unsent self.old) (unsent self.new) }
+        ensures once { WritesOnce (noop_left self.old) (W.is_over w.new) (W.answers w.old) (W.answers w.new) result }
+        ensures socket { W.socket w.new ≡ W.socket w.old }
     {
         // Modelled in models/lane.h.
         let (count, sent) = write_once(self.noop(), w, by);

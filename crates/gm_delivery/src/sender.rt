@@ -1,49 +1,51 @@
 //! What is to be sent to a slot's connections, and where.
 
-ghost use Rattle.std.specs.Prelude.{◌≡◌, ◌<◌, [], length, Bool, Option, None, true, IfOk, MatchBool};
+ghost use Rattle.std.specs.Prelude.{◌≡◌, ◌<◌, [], length, Option, Some, None, true, false, IfOk, MatchBool};
+ghost use Rattle.std.specs.Net.Tcp.{stream_raw_fd};
 ghost use Rattle.gm_shared.specs.Openings.{most_openings};
-ghost use Rattle.gm_delivery.specs.Accounts.{no_sendings, ArePast, AreOver};
-ghost use Rattle.gm_delivery.specs.Sendings.{SenderState, is_clear, SendsLeft, Refills, finished, Delivers, deed_after, next_by, IsLetGo, IsNext, IsBegun};
+ghost use Rattle.gm_shared.specs.Pairings.{IsPair, passed_with};
+ghost use Rattle.gm_delivery.specs.Accounts.{no_sendings, ArePast, AreOver, WentThrough, closed};
+ghost use Rattle.gm_delivery.specs.Sendings.{SenderState, is_clear, can_begin, took_all_in, SendsLeft, Refills, finished, Transmits, Decides, deed_after, Delivers, let_go_of, begun};
 
-use crate::account::Ledger;
+use crate::account::Sendings;
 use crate::lane::Writing;
-use crate::life::{Deed, Life, OutboundState};
+use crate::life::{Deed, OutboundState};
 use crate::message::Message;
-use crate::socket::WriteHalf;
-use crate::wire::Wire;
-use gm_shared::{BookName, Pen, Shared};
+use crate::outbound::Outbound;
+use gm_ghost::Ghost;
+use gm_shared::{BookName, PairSide, Pairing, Pen};
+use gm_socket::{LoggedWriter, Socket};
 use std::alloc::{AllocError, Global};
-use std::marker::Model;
-use std::net::Shutdown;
+use std::collections::LinkedList;
+use std::marker::{Brand, Model};
 use std::sync::Wait;
 use std::time::Clock;
 
-/// That a delivery was made. Only `Sender::deliver` makes it. For it alone a lane's word is given up, or a connection is let go of that was served.
+/// That a delivery was made, and nothing is left to do. Only `Sender::deliver` makes it, and for it alone a lane's word
+/// is given up.
 #[derive(Drop)]
-pub struct Delivered {
-    // Whether the connection can be sent to, and nothing is left for it.
-    is_clear: bool,
+pub(crate) struct Delivered {
+    _made: (),
 }
 
-/// What is to be sent to a slot's connections, and where. Contracts see what its pen has seen and taken, what is left to be sent, what
-/// was written to the connection, and the account of all connections that are gone.
+/// What is to be sent to a slot's connections, and where. Contracts see what its pen has seen and taken, what is left
+/// to be sent, what was written to the connection, and the account of all connections that are gone.
 #[derive(Drop)]
-pub struct Sender<K: BookName> {
+pub(crate) struct Sender<K: BookName> {
     pen: Pen<K>,
-    /// How many connections began, each for the next opening of its slot; the greatest `u64` once one didn't, or a drain was of another
-    /// opening.
+    /// How many connections began, each for the next opening of its slot; the greatest `u64` once one couldn't be told
+    /// from the next, or a drain was of another opening.
     openings: u64,
-    /// The slot and opening to which the last connection's half was assigned.
-    of: Option<(u32, u64)>,
     /// What is left of the present message.
     left: Option<Message>,
     /// The connection, until it is let go of.
-    connection: Option<WriteHalf>,
-    ledger: Ledger,
+    outbound: Option<Outbound>,
+    /// What knows the sockets of the slot's connections.
+    side: PairSide<K>,
+    ledger: Ghost<Sendings>,
 }
 
 impl<K: BookName> Model for Sender<K> {
-    ghost use Rattle.std.specs.Option.{option_map};
     ghost use Rattle.gm_delivery.specs.Messages.{left_in};
     ghost use Rattle.gm_delivery.specs.Sendings.{SenderState, IsSender};
 
@@ -52,126 +54,171 @@ impl<K: BookName> Model for Sender<K> {
     ghost view = { λ s. record {
       slot = s.pen.slot;
       openings = s.openings;
-      of = s.of;
       seen = s.pen.witness.seen;
       takes = s.pen.seat.takes;
       tries = s.pen.seat.tries;
       left = left_in s.left;
-      outbound = option_map (λ c. record { state = c.life.state; log = c.socket.2 }) s.connection;
+      outbound = s.outbound;
+      side = s.side;
       sendings = s.ledger;
     } };
 
     ghost invariant = { λ s. IsSender (record {
       slot = s.pen.slot;
       openings = s.openings;
-      of = s.of;
       seen = s.pen.witness.seen;
       takes = s.pen.seat.takes;
       tries = s.pen.seat.tries;
       left = left_in s.left;
-      outbound = option_map (λ c. record { state = c.life.state; log = c.socket.2 }) s.connection;
+      outbound = s.outbound;
+      side = s.side;
       sendings = s.ledger;
     }) };
 }
 
-/// Whether a half was assigned to the opening of this slot that comes after this many, which a count of 64 bits can tell from the one after it.
-fn is_next(of: Option<(u32, u64)>, slot: u32, openings: u64) -> bool
-    ensures { MatchBool result (IsNext of slot openings) (IsNext of slot openings → ⊥) }
+/// What a slot's lane hands out at the end: the pen, the account of all connections, and what knows their sockets. It
+/// also says how many they are, one for each opening; the greatest `u64` if it can't.
+#[derive(Drop)]
+pub struct LaneParts<K: BookName> {
+    pub pen: Pen<K>,
+    pub ledger: Ghost<Sendings>,
+    pub openings: u64,
+    pub side: PairSide<K>,
+}
+
+/// Enters a connection that is gone.
+fn enter<K: BookName>(
+    ledger: &mut Ghost<Sendings>,
+    pen: &Pen<K>,
+    outbound: &Outbound,
+    is_whole: bool,
+)
+    ensures { ledger.new ≡ closed pen.now.witness.seen pen.now.seat.takes outbound.now.socket outbound.now.log is_whole ledger.old }
 {
-    match of {
-        Some((own, opening)) => {
-            own == slot && openings < u64::MAX - 1 && opening == openings + 1
-        }
-        None => false,
-    }
+    ledger.update::<(&Pen<K>, &Outbound, bool), Brand>(&(pen, outbound, is_whole));
 }
 
 impl<K: BookName> Sender<K> {
-    /// A pen that was given nothing yet, and no connection.
-    pub fn new(alloc: Global, pen: Pen<K>) -> Result<Sender<K>, AllocError>
-        requires { (pen.witness.seen ≡ []) × (pen.seat.takes ≡ 0) }
+    /// A pen that was given nothing yet, the side of its slot that writes, and no connection.
+    pub(crate) fn new(
+        alloc: Global,
+        pen: Pen<K>,
+        side: PairSide<K>,
+    ) -> Result<Sender<K>, AllocError>
+        requires pen { (pen.witness.seen ≡ []) × (pen.seat.takes ≡ 0) }
+        requires side { side.passed ≡ [] }
         ensures { IfOk result (λ sender. (sender.slot ≡ pen.slot) × (sender.outbound ≡ None) × (sender.sendings ≡ no_sendings)) }
     {
+        let blank = Sendings {
+            past: LinkedList::new(alloc),
+            since: LinkedList::new(alloc),
+            takes: 0,
+        };
         Ok(Sender {
             pen,
             openings: 0,
-            of: None,
             left: None,
-            connection: None,
-            ledger: Ledger::new(alloc)?,
+            outbound: None,
+            side,
+            ledger: Ghost::new(alloc, &blank)?,
         })
     }
 
-    /// Takes a connection, and lets go of one that is there. It says whether the connection can be sent to: only if its half was assigned to the
-    /// slot's next opening, and a count of 64 bits can tell that from the one after it. Else it is cut, and so is each that comes after it.
-    pub fn begin(&mut self, mut half: WriteHalf) -> bool
-        requires { half.socket.2 ≡ [] }
-        ensures { IsBegun result half.of self.old self.new }
+    /// Takes a connection, which somebody serves or not, lets go of one that is there, and hands its socket to both
+    /// sides of the slot. It says whether it could: only if this is the other side of the slot. The connection can be
+    /// sent to, unless a count of 64 bits can't tell its opening from the one after it.
+    pub(crate) fn begin(
+        &mut self,
+        writing: LoggedWriter<Socket>,
+        reading: &mut PairSide<K>,
+        pairing: &mut Pairing<K>,
+        is_served: bool,
+    ) -> bool
+        requires unwritten { (writing.bytes ≡ []) × (writing.answers ≡ []) }
+        ensures begun { MatchBool result (self.new ≡ begun (stream_raw_fd writing.writer.stream.value) [] is_served (let_go_of self.old)) (self.new ≡ let_go_of self.old) }
+        ensures paired { MatchBool result (IsPair reading.old self.old.side × (reading.new ≡ passed_with (Some (stream_raw_fd writing.writer.stream.value, is_served)) reading.old))
+            ((IsPair reading.old self.old.side → ⊥) × (reading.new ≡ reading.old)) }
+        ensures slots { pairing.new ≡ pairing.old }
     {
         // Modelled in models/lane.h.
         self.release();
-        let begins = is_next(half.of, self.pen.slot(), self.openings);
+        let socket = writing.writer().descriptor();
+        if !pairing.pair(reading, &mut self.side, socket, is_served) {
+            return false;
+        }
+        let begins = self.openings < u64::MAX - 1;
         self.openings = if begins { self.openings + 1 } else { u64::MAX };
-        self.of = half.of;
-        half.life = Life::new(begins);
-        self.connection = Some(half);
-        begins
+        self.outbound = Some(Outbound::new(writing, begins));
+        true
     }
 
-    /// Sends what was left, and then what waits in the book: the bytes, and a NOOP where one is owed. What waits for another opening of the slot
-    /// than the connection's is sent to nobody. Where the book is asked for bytes, it is asked for the NOOP first. Where all was sent, and the slot is
-    /// shut or the connection is to end, no more is sent, of which its peer is told.
-    pub fn deliver<E>(
+    /// Sends what was left, and then what waits in the book, and decides what is to be done next. If nothing is left
+    /// to do, the lane may be given up.
+    pub(crate) fn deliver<R: Wait + Clock>(
         &mut self,
-        rt: &impl Wait,
-        shared: &Shared<K>,
-        by: &E,
+        by: &Writing<'_, K, R>,
         ends: bool,
-    ) -> Delivered
-    where
-        WriteHalf: Wire<E>,
-        ensures delivers { Delivers K.settings K.taped ends self.old self.new }
-        ensures clear { result.is_clear ≡ is_clear self.new }
+        has_ended: bool,
+    ) -> Result<Delivered, Deed>
+        ensures { Delivers K.settings K.taped ends has_ended result self.old self.new }
+    {
+        // Modelled in models/lane.h.
+        let is_clear = self.transmit(by, ends);
+        match self.next(by, is_clear, has_ended) {
+            Deed::Serve => Ok(Delivered { _made: () }),
+            Deed::HangUp => Ok(Delivered { _made: () }),
+            Deed::Send => Err(Deed::Send),
+            Deed::Linger => Err(Deed::Linger),
+            Deed::LetGo => Err(Deed::LetGo),
+        }
+    }
+
+    /// Sends what was left, and then what waits in the book: the bytes, and a NOOP where one is owed. What waits for
+    /// another opening of the slot than the connection's is sent to nobody. If the book is asked for bytes, it is
+    /// asked for the NOOP first. If all was sent, and the slot is shut or the connection is to end, no more is sent,
+    /// of which its peer is told. It says whether the connection can be sent to, and nothing is left.
+    fn transmit<R: Wait + Clock>(&mut self, by: &Writing<'_, K, R>, ends: bool) -> bool
+        ensures transmits { Transmits K.settings K.taped ends self.old self.new }
+        ensures clear { result ≡ is_clear self.new }
     {
         // Modelled in models/lane.h.
         if !self.send_left(by) {
-            return Delivered { is_clear: false };
+            return false;
         }
-        let Some(is_shut) = self.refill(rt, shared) else {
-            return Delivered { is_clear: false };
+        let Some(is_shut) = self.refill(by) else {
+            return false;
         };
         let is_clear = self.send_left(by);
         if is_clear && (is_shut || ends) {
             self.finish();
-            return Delivered { is_clear: false };
+            return false;
         }
-        Delivered { is_clear }
+        is_clear
     }
 
     /// Sends what is left of the present message. It says whether the connection can be sent to, and nothing is left.
-    fn send_left<E>(&mut self, by: &E) -> bool
-    where
-        WriteHalf: Wire<E>,
+    fn send_left<R: Wait + Clock>(&mut self, by: &Writing<'_, K, R>) -> bool
         ensures sends { SendsLeft self.old self.new }
         ensures clear { result ≡ is_clear self.new }
     {
         // Modelled in models/lane.h.
-        match &mut self.connection {
-            Some(half) => half.send(&mut self.left, by),
+        match &mut self.outbound {
+            Some(outbound) => outbound.send(&mut self.left, by),
             None => false,
         }
     }
 
-    /// Takes what the pen gives to the connection, which is left to be sent then, and says whether the slot is shut. If it gives nothing, or what
-    /// waits for another opening of the slot, the connection is cut, and none is the answer.
-    fn refill(&mut self, rt: &impl Wait, shared: &Shared<K>) -> Option<bool>
+    /// Takes what the pen gives to the connection, which is left to be sent then, and says whether the slot is shut. If
+    /// it gives nothing, or what waits for another opening of the slot, the connection is cut, and none is the answer.
+    fn refill<R: Wait + Clock>(&mut self, by: &Writing<'_, K, R>) -> Option<bool>
         requires { is_clear self.old ≡ true }
         ensures { Refills K.settings K.taped result self.old self.new }
     {
         // Modelled in models/lane.h.
+        let shared = by.context.shared;
         let took = self.pen.take(shared);
-        let drained = self.pen.drain(rt, shared);
-        let Some(half) = &mut self.connection else {
+        let drained = self.pen.drain(by.context.rt, shared);
+        let Some(outbound) = &mut self.outbound else {
             return None;
         };
         match drained {
@@ -181,11 +228,11 @@ impl<K: BookName> Sender<K> {
             }
             Ok(_) => {
                 self.openings = u64::MAX;
-                half.life.state = OutboundState::Cut;
+                outbound.cut();
                 None
             }
             Err(_) => {
-                half.life.state = OutboundState::Cut;
+                outbound.cut();
                 None
             }
         }
@@ -197,97 +244,121 @@ impl<K: BookName> Sender<K> {
         ensures { self.new ≡ finished self.old }
     {
         // Modelled in models/lane.h.
-        let Some(half) = &mut self.connection else {
-            return;
-        };
-        half.life.state = OutboundState::Finished;
-        half.shut(Shutdown::Write);
+        match &mut self.outbound {
+            Some(outbound) => outbound.finish(),
+            None => {}
+        }
     }
 
-    /// What is to be done for the connection after a delivery, whose input ended or not. Hanging up is done here: then it is sent nothing more,
-    /// and nothing is read from it.
-    pub(crate) fn next<R: Clock>(
+    /// What is to be done for the connection after a delivery, whose input ended or not. Hanging up is done here: then
+    /// it is sent nothing more, and nothing is read from it.
+    fn next<R: Wait + Clock>(
         &mut self,
         by: &Writing<'_, K, R>,
-        delivered: &Delivered,
+        clear: bool,
         has_ended: bool,
     ) -> Deed
-        requires { delivered.now.is_clear ≡ is_clear self.old }
-        ensures deed { (over : Bool) × (result ≡ deed_after self.old over has_ended) }
-        ensures done { self.new ≡ next_by result self.old }
+        requires { clear ≡ is_clear self.old }
+        ensures { Decides has_ended result self.old self.new }
     {
         // Modelled in models/lane.h.
-        match &mut self.connection {
-            Some(half) => {
-                let deed = half.next(by, !delivered.is_clear, has_ended);
-                if deed == Deed::HangUp {
+        match &mut self.outbound {
+            Some(outbound) => match outbound.next(by, !clear, has_ended) {
+                Deed::HangUp => {
                     self.left = None;
+                    Deed::HangUp
                 }
-                deed
-            }
+                Deed::Serve => Deed::Serve,
+                Deed::Send => Deed::Send,
+                Deed::Linger => Deed::Linger,
+                Deed::LetGo => Deed::LetGo,
+            },
             None => Deed::Serve,
         }
     }
 
     /// Whether the last write took all.
-    pub(crate) fn takes_more(&self) -> bool {
-        match &self.connection {
-            Some(half) => half.takes_more,
+    pub(crate) fn takes_more(&self) -> bool
+        ensures { result ≡ took_all_in self.now.outbound }
+    {
+        match &self.outbound {
+            Some(outbound) => outbound.takes_more(),
             None => false,
         }
     }
 
-    /// Takes a connection that nobody serves, and lets go of it at once.
-    pub(crate) fn refuse(&mut self, half: WriteHalf)
-        requires { half.socket.2 ≡ [] }
-        ensures { (begins : Bool) × (begun : SenderState) × (whole : Option Bool) × IsBegun begins half.of self.old begun × IsLetGo whole begun self.new }
+    /// Lets go of the connection after a delivery, as nothing is read from it any more.
+    pub(crate) fn let_go(&mut self, has_ended: bool)
+        requires { deed_after self.old has_ended ≡ Deed.LetGo }
+        ensures { self.new ≡ let_go_of self.old }
     {
-        // Modelled in models/endings.pml and shutdown.pml.
-        self.begin(half);
+        // Modelled in models/lane.h.
         self.release();
     }
 
-    /// Ends the connection after a delivery, and lets go of it. It says whether all that was due was written to it; none means that there was
-    /// no connection.
-    pub fn let_go(&mut self, _delivered: Delivered) -> Option<bool>
-        ensures { IsLetGo result self.old self.new }
+    /// Takes a connection that nobody serves, and lets go of it at once. It says whether its socket could be handed to
+    /// both sides of the slot.
+    pub(crate) fn refuse(
+        &mut self,
+        writing: LoggedWriter<Socket>,
+        reading: &mut PairSide<K>,
+        pairing: &mut Pairing<K>,
+    ) -> bool
+        requires unwritten { (writing.bytes ≡ []) × (writing.answers ≡ []) }
+        ensures begun { MatchBool result (self.new ≡ let_go_of (begun (stream_raw_fd writing.writer.stream.value) [] false (let_go_of self.old))) (self.new ≡ let_go_of self.old) }
+        ensures paired { MatchBool result (IsPair reading.old self.old.side × (reading.new ≡ passed_with (Some (stream_raw_fd writing.writer.stream.value, false)) reading.old))
+            ((IsPair reading.old self.old.side → ⊥) × (reading.new ≡ reading.old)) }
+        ensures slots { pairing.new ≡ pairing.old }
     {
-        self.release()
+        // Modelled in models/endings.pml and shutdown.pml.
+        if !self.begin(writing, reading, pairing, false) {
+            return false;
+        }
+        self.release();
+        true
     }
 
-    /// Ends the connection, and lets go of it.
-    fn release(&mut self) -> Option<bool>
-        ensures { IsLetGo result self.old self.new }
+    /// Ends the connection, if there is one, and lets go of it.
+    fn release(&mut self)
+        ensures { self.new ≡ let_go_of self.old }
     {
         // Modelled in models/lane.h.
-        let Some(half) = self.connection.take() else {
-            return None;
-        };
-        let is_whole = match half.life.state {
-            OutboundState::Open => self.left.is_none(),
-            OutboundState::Finished => true,
-            OutboundState::Cut => false,
-        };
-        self.ledger.close(&self.pen, self.of, &half, is_whole);
+        if let Some(outbound) = self.outbound.take() {
+            let is_whole = match outbound.state() {
+                OutboundState::Open => match &self.left {
+                    None => true,
+                    Some(message) => message.is_empty(),
+                },
+                OutboundState::Finished => true,
+                OutboundState::Cut => false,
+            };
+            enter(&mut self.ledger, &self.pen, &outbound, is_whole);
+        }
         self.left = None;
-        Some(is_whole)
     }
 
-    /// The pen, and the account of all connections: to each was written a prefix of what the pen was given at its opening of the slot. It also says
-    /// how many they are, one for each opening; the greatest `u64` if it can't.
-    pub fn into_parts(self) -> (Pen<K>, Ledger, u64)
-        ensures past { ArePast result.0.slot result.1.past result.0.witness.seen result.0.seat.takes }
-        ensures counted { result.2 < most_openings → (length result.1.past ≡ result.2) × AreOver result.0.slot result.1.past result.0.witness.seen }
-        ensures slot { result.0.slot ≡ self.slot }
+    /// The pen, and the account of all connections: to each was written a prefix of what the pen was given at its
+    /// opening of the slot, and each went through the socket that the side knows of it.
+    pub(crate) fn into_parts(self) -> LaneParts<K>
+        ensures past { ArePast result.pen.slot result.ledger.past result.pen.witness.seen result.pen.seat.takes }
+        ensures counted { result.openings < most_openings → (length result.ledger.past ≡ result.openings) × AreOver result.pen.slot result.ledger.past result.pen.witness.seen }
+        ensures side { WentThrough result.ledger.past result.side.passed }
+        ensures slot { result.pen.slot ≡ self.slot }
     {
         let mut sender = self;
         sender.release();
         let Sender {
             pen,
             openings,
+            side,
             ledger,
             ..
         } = sender;
-        (pen, ledger, openings)
+        LaneParts {
+            pen,
+            ledger,
+            openings,
+            side,
+        }
     }
 }

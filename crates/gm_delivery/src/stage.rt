@@ -11,13 +11,15 @@ pub enum ServerStage {
     Graceful,
     /// The same, and each connection is to end.
     Stopped,
-    /// The same, as there was no memory to enter a connection's end on the tape, so that the book still has its slot open.
+    /// The same, as there was no memory to enter a connection's end on the tape, so that the book still has its slot
+    /// open.
     Failed,
     /// There are no connections any more, and none comes.
     Ended,
 }
 
-/// How far something is, for all threads. It goes on to a later stage only, until it begins again. Stages are numbered from 0.
+/// How far something is, for all threads. It goes on to a later stage only, until it begins again. Stages are numbered
+/// from 0.
 #[derive(Drop)]
 pub struct Stage {
     code: AtomicU8,

@@ -3,9 +3,9 @@
 ghost use Rattle.std.specs.Prelude.{◌≡◌, ◌<◌, length, take, OnOk, IfErr};
 ghost use Rattle.std.specs.Io.KnownBytes.{Appends};
 ghost use Rattle.std.specs.IoError.{error_kind};
-ghost use Rattle.gm_delivery.specs.Messages.{message_of, noop_if, sent_on, Writes};
+ghost use Rattle.gm_delivery.specs.Messages.{message_of, noop_if, sent_on, Writes, WritesOnce};
 
-use crate::wire::Wire;
+use gm_socket::Wire;
 use std::io::{Error, ErrorKind, Write};
 
 /// The packet NOOP (the Gearman PROTOCOL document, "NOOP"): the magic of a response, the type 6, and no data.
@@ -40,14 +40,19 @@ pub(crate) fn noop_if(took: bool) -> &'static [u8]
     if took { NOOP } else { &[] }
 }
 
-/// Writes the bytes, as many as the writer takes in one write, and says how many these were. Where it takes some and not all,
-/// it takes no more at present.
+/// Writes the bytes, as many as the writer takes in one write, and says how many these were. If it takes some and
+/// not all, it takes no more at present; nor is it asked for any once its time is over.
 pub(crate) fn write_once<E, W: Wire<E>>(bytes: &[u8], w: &mut W, by: &E) -> (usize, Sent)
-    ensures { Writes (W.contents w.old) (W.contents w.new) bytes.now result.0 result.1 }
+    ensures writes { Writes (W.contents w.old) (W.contents w.new) bytes.now result.0 result.1 }
+    ensures once { WritesOnce bytes.now (W.is_over w.new) (W.answers w.old) (W.answers w.new) result.1 }
+    ensures socket { W.socket w.new ≡ W.socket w.old }
 {
     // Modelled in models/lane.h.
     if bytes.is_empty() {
         return (0, Sent::All);
+    }
+    if w.is_over() {
+        return (0, Sent::Some);
     }
     match w.write_by(by, bytes) {
         Ok(count) if count == bytes.len() => (count, Sent::All),
@@ -64,8 +69,8 @@ pub struct WriteFault {
     pub written: usize,
 }
 
-/// Writes all of the bytes, in as many writes as that takes. Where one takes none of them, or fails, it says how many bytes
-/// were written.
+/// Writes all of the bytes, in as many writes as that takes. If one takes none of them, or fails, it says how many
+/// bytes were written.
 fn write_whole<W: Write>(bytes: &[u8], w: &mut W) -> Result<(), usize>
     ensures ok { OnOk result (Appends (W.contents w.old) (W.contents w.new) bytes.now) }
     ensures short { IfErr result (λ written. written < length bytes.now) }
@@ -81,8 +86,8 @@ fn write_whole<W: Write>(bytes: &[u8], w: &mut W) -> Result<(), usize>
     Ok(())
 }
 
-/// Writes a message: the drained bytes, and then a NOOP where one was taken. A fault comes where the writer fails or takes
-/// no byte, and says how many bytes of the message were written.
+/// Writes a message: the drained bytes, and then a NOOP where one was taken. A fault comes where the writer fails or
+/// takes no byte, and says how many bytes of the message were written.
 pub fn write_turn<W: Write>(took: bool, drained: &[u8], w: &mut W) -> Result<(), WriteFault>
     ensures ok { OnOk result (Appends (W.contents w.old) (W.contents w.new) (message_of took drained.now)) }
     ensures short { IfErr result (λ fault. fault.written < length (message_of took drained.now)) }

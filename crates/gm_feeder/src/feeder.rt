@@ -5,6 +5,7 @@ ghost use Rattle.std.specs.Borrow.{sem};
 ghost use Rattle.std.specs.Io.BufRead.{Rests};
 ghost use Rattle.std.specs.Io.KnownBytes.{Keeps, IsAtEnd};
 ghost use Rattle.gm_feeder.specs.contracts.feeder.Feeder.{the_row};
+ghost use Rattle.gm_feeder.specs.Answers.{AsksOnce};
 ghost use Rattle.gm_feeder.specs.Units.{IsUnitThen, IsFaultOf, Waits, APacket};
 ghost use Rattle.gm_feeder.specs.Heads.{IsHead, data_of as spec_data_of};
 ghost use Rattle.gm_feeder.specs.Streams.{item_of, item_in, with_bytes, without_first, GivesNext, GivesUnit, TakesIn};
@@ -24,8 +25,8 @@ const MOST_KEPT: usize = 65_536;
 
 /// Takes the bytes of a connection in pieces of any length, and gives them out as units.
 ///
-/// Where no byte is pending it keeps room for at most 65,536: the memory of a large unit goes back when the next is asked
-/// for, and there is none.
+/// If no byte is pending it keeps room for at most 65,536: the memory of a large unit goes back when the next is
+/// asked for, and there is none.
 ///
 /// A fault that `next_unit` returns stays: from then on `feed` and `next_unit` return it again, and change
 /// nothing.
@@ -100,8 +101,8 @@ impl Feeder {
     }
 
     /// Takes the next bytes of the stream from a source, by one call, and answers how many they are: none at its end.
-    /// They are read to where they are pending, without a copy. Where the header of a packet is pending, room is made for
-    /// the rest of that packet, once.
+    /// They are read to where they are pending, without a copy. If the header of a packet is pending, room is made
+    /// for the rest of that packet, once.
     ///
     /// A fault that `next_unit` has returned is returned again. Otherwise `Memory` is returned where there is no memory
     /// for the room, and nothing was read. No error changes anything.
@@ -112,6 +113,8 @@ impl Feeder {
         ensures none_lost { OnErr result (Keeps (S.remaining source.old) (S.remaining source.new)) }
         ensures none_heard { OnErr result (Keeps (S.heard source.old) (S.heard source.new)) }
         ensures standing { IfSome self.old.fault (λ fault. result ≡ Err (ReadError.Feed fault)) }
+        ensures asks { AsksOnce (S.answers source.old) (S.answers source.new) result }
+        ensures socket { S.socket source.new ≡ S.socket source.old }
     {
         if let Some(fault) = self.fault {
             return Err(ReadError::Feed(fault));
@@ -183,8 +186,8 @@ impl Feeder {
         }
     }
 
-    /// The next unit with its memory, if it is a packet with at least `least` bytes of data, and there is memory for the
-    /// bytes behind it. If not, nothing changes. It is for long packets, whose data can be kept without a copy.
+    /// The next unit with its memory, if it is a packet with at least `least` bytes of data, and there is memory for
+    /// the bytes behind it. If not, nothing changes. It is for long packets, whose data can be kept without a copy.
     pub fn take_packet(&mut self, least: usize) -> Option<OwnedPacket>
         ensures packet { IfSome result (λ packet. GivesUnit self.old (item_in packet) self.new) }
         ensures none { IfNone result (self.new ≡ self.old) }
@@ -201,8 +204,8 @@ impl Feeder {
         }
     }
 
-    // Gives out the packet with which the pending bytes begin, with its memory: the bytes behind it are copied to memory of
-    // their own.
+    // Gives out the packet with which the pending bytes begin, with its memory: the bytes behind it are copied to
+    // memory of their own.
     fn take_buffer(&mut self, kind: u32, size: usize) -> Option<OwnedPacket>
         requires within { 12 + size ≤ length self.old.pending }
         requires running { self.old.fault ≡ None }
@@ -239,7 +242,7 @@ impl Feeder {
         }
     }
 
-    // The head of the pending bytes. Where that is no unit yet, it remembers how far it has searched.
+    // The head of the pending bytes. If that is no unit yet, it remembers how far it has searched.
     fn next_head(&mut self) -> Head
         ensures head { IsHead self.old.limits self.old.pending result }
         ensures kept { self.new ≡ self.old }

@@ -102,8 +102,8 @@ pub(crate) fn find_head(bytes: &[u8], scanned: usize, limits: Limits) -> Head
     }
 }
 
-/// How many bytes of a packet are still to come, where its header is there; 0 where it isn't, or where the packet is too
-/// large.
+/// How many bytes of a packet are still to come, where its header is there; 0 where it isn't, or where the packet is
+/// too large.
 pub(crate) fn missing_of(bytes: &[u8], limits: Limits) -> usize {
     let Some(header) = bytes.first_chunk::<HEADER_LEN>() else {
         return 0;

@@ -15,5 +15,5 @@ mod source;
 mod units;
 
 pub use feeder::Feeder;
-pub use source::{Patience, Source};
+pub use source::{Answer, Patience, Source};
 pub use units::{FeedFault, Limits, OwnedPacket, ReadError, Unit};

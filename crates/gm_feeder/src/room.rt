@@ -1,7 +1,8 @@
 //! Room to read into.
 
-ghost use Rattle.std.specs.Prelude.{◌≡◌, ◌+◌, ◌<◌, ◌≤◌, IfOk, OnOk, OnErr, take, drop, vec_len};
+ghost use Rattle.std.specs.Prelude.{◌≡◌, ℕ, ◌+◌, ◌<◌, ◌≤◌, IfOk, OnOk, OnErr, take, drop, vec_len};
 ghost use Rattle.std.specs.Io.KnownBytes.{Consumes, Keeps, Appends, IsAtEnd};
+ghost use Rattle.gm_feeder.specs.Answers.{Answered, answer_of};
 
 use crate::source::Source;
 use std::alloc::AllocError;
@@ -19,7 +20,8 @@ const PIECE: usize = 16_384;
 /// The least room for a packet of which more is announced than came.
 const ANNOUNCED_PIECE: usize = 65_536;
 
-/// The least memory for such a packet. What isn't read into yet isn't touched, and a packet that is no longer isn't moved while it comes.
+/// The least memory for such a packet. What isn't read into yet isn't touched, and a packet that is no longer isn't
+/// moved while it comes.
 const RESERVED_PIECE: usize = 131_072;
 
 /// The most bytes that are cleared at a time: what was cleared last is still near when it is read into.
@@ -43,8 +45,8 @@ fn room_for_read(end: usize, missing: usize, room: usize) -> usize
     }
 }
 
-/// Makes room behind the first `end` bytes, of which the rest of a packet gets no more than it misses. The memory doubles at
-/// least whenever it grows for a long packet, so that each of its bytes is copied a bounded number of times.
+/// Makes room behind the first `end` bytes, of which the rest of a packet gets no more than it misses. The memory
+/// doubles at least whenever it grows for a long packet, so that each of its bytes is copied a bounded number of times.
 pub(crate) fn make_room(
     buffer: &mut Vec<u8>,
     end: usize,
@@ -86,6 +88,8 @@ pub(crate) fn read_at<E, S: Source<E>>(
     ensures end { IfOk result (λ count. count ≡ 0 → IsAtEnd (S.remaining source.new)) }
     ensures err { OnErr result (Keeps (S.remaining source.old) (S.remaining source.new)) }
     ensures unheard { OnErr result (Keeps (S.heard source.old) (S.heard source.new)) }
+    ensures answered { (size : ℕ) × (0 < size) × Answered (S.answers source.old) (S.answers source.new) (answer_of result size) }
+    ensures socket { S.socket source.new ≡ S.socket source.old }
 {
     source.read_by(by, &mut buffer[at..])
 }

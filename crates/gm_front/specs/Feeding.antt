@@ -29,8 +29,8 @@ pub record Unloads {S : Type 0} (agrees : S → Settings → List Step → Type 
   pub sound : unloaded.fault ≡ None → new.fault ≡ None
   pub after : AgreesAfter agrees (λ k steps. with_units k c items steps) unloaded.created server server'
 
--- This many units are at the head of the bytes; they were taken, and slot c would have taken more. What comes next wasn't; or, where there
--- was no memory for the piece, none was.
+-- This many units are at the head of the bytes; they were taken, and slot c would have taken more. What comes next
+-- wasn't; or, where there was no memory for the piece, none was.
 pub record CutsShort {S : Type 0} (agrees : S → Settings → List Step → Type 0) (c : ℕ) (server : S) (old : Stream) (units : ℕ) (server' : S) : Type 0 where
   pub items : List Item
   pub count : length items ≡ units

@@ -107,8 +107,9 @@ pub record GivesPiece (k : Settings) (limits : Limits) (c : ℕ) (piece : List �
 abbrev pub with_closed : ℕ → List Step → (ℕ → List ℕ) → Reading
 with_closed c steps rests = record { steps = Close c ∷ steps; rests = with_rest c [] rests }
 
--- A piece of slot c that was cut: a count of units begins the rest and the piece; they were taken, all of
--- them, and what comes next wasn't, a unit or a fault; or, where there was no memory for the piece, no unit was. Then the slot was closed.
+-- A piece of slot c that was cut: a count of units begins the rest and the piece; they were taken, all of them, and
+-- what comes next wasn't, a unit or a fault; or, where there was no memory for the piece, no unit was. Then the slot
+-- was closed.
 pub record CutsPiece (k : Settings) (limits : Limits) (c : ℕ) (piece : List ℕ) (units : ℕ) (old new : Reading) : Type 0 where
   pub items : List Item
   pub count : length items ≡ units

@@ -1,5 +1,5 @@
--- How a server reads packets: as this server's documents say, or, with `as_gearmand`, as gearmand's applications mean them. What they mean is
--- said as a packet that this server reads alike.
+-- How a server reads packets: as this server's documents say, or, with `as_gearmand`, as gearmand's applications mean
+-- them. What they mean is said as a packet that this server reads alike.
 use Rattle.std.specs.Prelude.{ℕ, ◌+◌, ◌/◌, max, Bool, not, ◌&&◌, ◌||◌, ◌==◌, nat_le, if◌then◌else◌, List, [], ◌∷◌, ◌++◌, length, map, codes, decimal}
 use Rattle.std.specs.Prelude.{Option, Some, None}
 use Rattle.std.specs.Char.{to_ascii_lowercase}
@@ -18,8 +18,8 @@ Parts = ℕ × List ℕ
 abbrev pub result_meant : List ℕ → Parts
 result_meant bytes = if not (has_nul bytes) && nat_le (length bytes) 64 then (13, bytes ++ 0 ∷ []) else (13, bytes)
 
--- a time limit is in milliseconds, and less than 1,000 counts as 1,000; it is rounded up to seconds, with one more for the second that the
--- clock is in
+-- a time limit is in milliseconds, and less than 1,000 counts as 1,000; it is rounded up to seconds, with one more for
+-- the second that the clock is in
 abbrev pub seconds_meant : ℕ → ℕ
 seconds_meant milliseconds = (max milliseconds 1000 + 999) / 1000 + 1
 

@@ -24,7 +24,7 @@ struct Unloaded {
     fault: Option<UnitFault>,
 }
 
-/// Hands in an event, and answers the job that it made. Where it is refused, nothing happens.
+/// Hands in an event, and answers the job that it made. If it is refused, nothing happens.
 fn hand_in<S: JobServer>(server: &mut S, event: &Event<'_>) -> Result<Option<u64>, AllocError>
     requires { IsSized event.now }
     ensures ok { IfOk result (λ created. AgreesAfter S.agrees (λ k steps. handed_in k (step_of event.now) steps) created server.old server.new) }
@@ -37,8 +37,8 @@ fn hand_in<S: JobServer>(server: &mut S, event: &Event<'_>) -> Result<Option<u64
     }
 }
 
-/// Hands in an event as gearmand's applications mean it. `hand_in_unit` calls it only where that is asked, because each call clears the
-/// room for the data.
+/// Hands in an event as gearmand's applications mean it. `hand_in_unit` calls it only where that is asked, because each
+/// call clears the room for the data.
 #[inline(never)]
 fn hand_in_meant<S: JobServer>(server: &mut S, event: Event<'_>) -> Result<Option<u64>, AllocError>
     requires { IsSized event }

@@ -57,8 +57,8 @@ impl<S: JobServer> Front<S> {
 
     /// Takes an input, and answers what came of it.
     ///
-    /// An input is refused as its step is; a piece with `NotOpen` where its slot isn't open or is shut. Out of
-    /// memory, an opening or a tick is refused, and a piece is cut: the units before it stay taken, and the slot is closed. No
+    /// An input is refused as its step is; a piece with `NotOpen` where its slot isn't open or is shut. Out of memory,
+    /// an opening or a tick is refused, and a piece is cut: the units before it stay taken, and the slot is closed. No
     /// other input needs memory. A unit is taken with the piece that brings its last byte.
     pub fn step(&mut self, input: Input<'_>) -> Result<Stepped, StepError>
         ensures every_list { (k : Settings) (limits : Limited) (inputs : List Spelled) → Agrees S.agrees k limits inputs self.old

@@ -1,4 +1,5 @@
-//! What is true of all inputs, and so of every front. Each function here is a law: its contract states it, and its body is empty.
+//! What is true of all inputs, and so of every front. Each function here is a law: its contract states it, and its body
+//! is empty.
 
 ghost use Rattle.std.specs.Prelude.{◌≡◌, ◌+◌, ◌*◌, ◌<◌, ◌≤◌, ℕ, max, List, [], ◌∷◌, ◌++◌, true, false, Some};
 ghost use Rattle.gm_feeder.specs.declared.units.Limits.{Limits};
@@ -59,10 +60,11 @@ pub fn grabs_are_alike()
     ensures { (k : Settings) (c : ℕ) (bytes : List ℕ) → k.as_gearmand ≡ true → step_of_unit k c (APacket 39 bytes) ≡ step_of_unit k c (APacket 30 bytes) }
 {}
 
-/// With `as_gearmand` a time limit is in milliseconds, and less than 1,000 counts as 1,000. A limit of m milliseconds is read as s seconds
-/// with `m ≤ 1000 * (s - 1) < m + 1000`. By `no_job_means_no_work` a job's deadline is s seconds after the second that the clock shows when
-/// the job is given out. That second may have just begun or be nearly over, so the job has at least m milliseconds, and its deadline comes
-/// less than m + 2,000 milliseconds after it was given out.
+/// With `as_gearmand` a time limit is in milliseconds, and less than 1,000 counts as 1,000. A limit of m milliseconds
+/// is read as s seconds with `m ≤ 1000 * (s - 1) < m + 1000`. By `no_job_means_no_work` a job's deadline is s seconds
+/// after the second that the clock shows when the job is given out. That second may have just begun or be nearly over,
+/// so the job has at least m milliseconds, and its deadline comes less than m + 2,000 milliseconds after it was given
+/// out.
 pub fn limits_are_neither_early_nor_late()
     ensures not_early { (milliseconds : ℕ) → max milliseconds 1000 + 1000 ≤ 1000 * seconds_meant milliseconds }
     ensures not_late { (milliseconds : ℕ) → 1000 * seconds_meant milliseconds < max milliseconds 1000 + 2000 }

@@ -43,8 +43,8 @@ fn mean_result<'a>(bytes: Data<'a>, room: &'a mut Room) -> Parts<'a>
     (kind, Data::lent(room.as_slice()))
 }
 
-/// The seconds of a time limit in milliseconds, where less than 1,000 counts as 1,000: rounded up, with one more for the second that
-/// the clock is in, so that a job never fails too early.
+/// The seconds of a time limit in milliseconds, where less than 1,000 counts as 1,000: rounded up, with one more for
+/// the second that the clock is in, so that a job never fails too early.
 fn mean_seconds(milliseconds: u32) -> u64
     ensures { result ≡ seconds_meant milliseconds }
 {
@@ -116,8 +116,8 @@ fn mean_packet<'a>(kind: u32, bytes: Data<'a>, room: &'a mut Room) -> Parts<'a>
     }
 }
 
-/// The event that gearmand's applications mean. Its data may lie in `room`, which is empty before; they are no longer than before, but
-/// for one byte of a short packet. It takes no memory.
+/// The event that gearmand's applications mean. Its data may lie in `room`, which is empty before; they are no longer
+/// than before, but for one byte of a short packet. It takes no memory.
 pub fn mean_event<'a>(event: Event<'a>, room: &'a mut Room) -> Event<'a>
     requires size { IsSized event }
     requires empty { room.old.items ≡ [] }

@@ -1,0 +1,3 @@
+pub mod Logs
+mod Moves
+mod Entering

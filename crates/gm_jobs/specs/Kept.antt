@@ -18,21 +18,22 @@ pub record Beside : Type 0 where
   pub index : HintTable
   pub deadlines : DeadlineTable
 
--- Each table has a live job: its number was given out, its unique id leads to it if it names it, and its deadline is listed.
+-- Each table has a live job: its number was given out, its unique id leads to it if it names it, and its deadline is
+-- listed.
 pub record IsInAllTables (b : Beside) (n : ℕ) (live : Live) : Type 0 where
   pub made : b.first ≤ n
   pub spent : n < b.next
   pub led : joins live.unique ≡ true → LeadsTo b.uniques (digest_of b.seed live.function live.unique) n
   pub listed : IsListed b.deadlines n live
 
--- Where room is reserved, each table has room for one job more.
+-- If room is reserved, each table has room for one job more.
 pub record IsReady (b : Beside) (spare : ℕ) : Type 0 where
   pub job : 0 < spare
   pub id : 0 < b.uniques.room
   pub number : b.left ≡ true
 
--- The invariant: each live job is in all tables, it is found by each question that it meets, no unique id names two live
--- jobs of one function, and where room is reserved each table has it.
+-- The invariant: each live job is in all tables, it is found by each question that it meets, no unique id names two
+-- live jobs of one function, and where room is reserved each table has it.
 pub record IsKept (b : Beside) (room : Option Room) (spare : ℕ) (jobs : List (ℕ × Live)) : Type 0 where
   pub known : (n : ℕ) (live : Live) → find_job jobs n ≡ Some live → IsInAllTables b n live
   pub found : AllFound jobs b.index

@@ -13,8 +13,8 @@ use Rattle.gm_jobs.specs.declared.job.Body.{Body}
 use Rattle.gm_jobs.specs.declared.job.Body.TheVariants.{Own, Shared}
 
 -- Its function, priority, unique id and body; whether a background submission keeps it; whether it waits or runs, how
--- often it came back where that is counted, and the moment at which it fails; how far it is, once that was reported; and its
--- listeners, in the order in which they came, once for each time.
+-- often it came back where that is counted, and the moment at which it fails; how far it is, once that was reported;
+-- and its listeners, in the order in which they came, once for each time.
 pub record Live : Type 0 where
   pub function : ℕ
   pub priority : Priority

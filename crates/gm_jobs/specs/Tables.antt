@@ -19,8 +19,8 @@ pub record Room : Type 0 where
   pub unique_len : ℕ
   pub body_len : ℕ
 
--- The seed with which it hashes; the number of the first job, and of the next one, which is 2 ^ 64 once all are spent; the
--- room that is reserved; and the live jobs, each with its number.
+-- The seed with which it hashes; the number of the first job, and of the next one, which is 2 ^ 64 once all are spent;
+-- the room that is reserved; and the live jobs, each with its number.
 pub record Table : Type 0 where
   pub seed : RandomState
   pub first : ℕ

@@ -16,8 +16,8 @@ use std::marker::Model;
 
 /// The deadlines of the jobs that run, among others that no job has any more.
 ///
-/// Each is compared with its job, so a deadline that no job has any more does no harm: it goes when it is reached, or when
-/// there is no room for one more. Then all deadlines are taken from the jobs again.
+/// Each is compared with its job, so a deadline that no job has any more does no harm: it goes when it is reached, or
+/// when there is no room for one more. Then all deadlines are taken from the jobs again.
 #[derive(Drop)]
 pub(crate) struct Deadlines {
     // Each deadline with the number of its job: the soonest is first.
@@ -77,8 +77,8 @@ pub(crate) fn deadline_of(jobs: &JobMap, n: u64) -> Option<u64>
     jobs.get(n)?.deadline()
 }
 
-// The jobs that are due are among the reached then, each once: a deadline that its job has no more is passed over, and equal
-// ones of a job follow each other.
+// The jobs that are due are among the reached then, each once: a deadline that its job has no more is passed over, and
+// equal ones of a job follow each other.
 fn gather(waiting: &mut MinHeap, reached: &mut Hints, jobs: &JobMap, now: u64)
     requires { AllListed jobs.now.entries (listing waiting.old reached.old) }
     ensures listed { AllListed jobs.now.entries (listing waiting.new reached.new) }
@@ -138,8 +138,8 @@ impl Deadlines {
         }
     }
 
-    // The jobs that are due are among the reached then. Those that were reached before and don't run any more go first, which
-    // leaves room.
+    // The jobs that are due are among the reached then. Those that were reached before and don't run any more go first,
+    // which leaves room.
     fn collect(&mut self, jobs: &JobMap, now: u64)
         requires { AllListed jobs.now.entries self.old }
         ensures listed { AllListed jobs.now.entries self.new }

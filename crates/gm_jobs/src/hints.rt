@@ -14,8 +14,8 @@ use std::marker::Model;
 
 /// The numbers of all jobs that meet one question, as of those that run at a slot, and perhaps of others.
 ///
-/// Each number is compared with its job, so the number of a job that no longer meets the question does no harm. If there is no
-/// room for a number, it is missing: from then on all jobs are looked at.
+/// Each number is compared with its job, so the number of a job that no longer meets the question does no harm. If
+/// there is no room for a number, it is missing: from then on all jobs are looked at.
 #[derive(Drop)]
 pub(crate) struct Hints {
     numbers: Vec<u64>,
@@ -202,8 +202,8 @@ impl Hints {
         }
     }
 
-    /// The least number above `after` of a job that is what is asked for. Where there is none, it lets go of the numbers whose
-    /// jobs aren't what `rest` asks for.
+    /// The least number above `after` of a job that is what is asked for. If there is none, it lets go of the
+    /// numbers whose jobs aren't what `rest` asks for.
     pub(crate) fn next(
         &mut self,
         jobs: &JobMap,
@@ -252,7 +252,7 @@ impl Hints {
         }
     }
 
-    /// The numbers of another list as well. Where there are some already, these are missing.
+    /// The numbers of another list as well. If there are some already, these are missing.
     pub(crate) fn join(&mut self, other: Hints)
         ensures kept { (n : ℕ) → IsHinted self.old n → IsHinted self.new n }
         ensures came { (n : ℕ) → IsHinted other n → IsHinted self.new n }

@@ -89,8 +89,8 @@ fn next_run_at(
     next
 }
 
-// The slot doesn't listen any more to the jobs that are hinted at. A job is left once where its hints follow each other: leaving it
-// looks at all its listeners.
+// The slot doesn't listen any more to the jobs that are hinted at. A job is left once where its hints follow each
+// other: leaving it looks at all its listeners.
 fn leave_each(jobs: &mut JobMap, hints: &Hints, slot: u32)
     requires { AllHinted (is_heard_by slot) jobs.old.entries hints.now }
     ensures left { LeavesEach slot jobs.old.entries jobs.new.entries }

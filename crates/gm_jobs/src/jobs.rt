@@ -49,8 +49,8 @@ pub enum Back {
 
 /// The live jobs by their numbers.
 ///
-/// A call at a number that no live job has changes nothing. Calls that answer no refusal take no memory. For slots below
-/// 1,024 what a slot runs and listens to is found without a look at other jobs, where `reserve_run` and
+/// A call at a number that no live job has changes nothing. Calls that answer no refusal take no memory. For slots
+/// below 1,024 what a slot runs and listens to is found without a look at other jobs, where `reserve_run` and
 /// `reserve_listener` came before.
 #[derive(Drop)]
 pub struct Jobs {
@@ -147,8 +147,8 @@ impl Jobs {
         self.index.reserve(Query::RunBy(slot), &self.jobs)
     }
 
-    /// Makes a job in the room that is reserved, and gives its number. A shared body takes the place of the one that the
-    /// job says. The vacancy is that of its function and unique id.
+    /// Makes a job in the room that is reserved, and gives its number. A shared body takes the place of the one that
+    /// the job says. The vacancy is that of its function and unique id.
     pub fn insert(&mut self, new: NewJob<'_>, shared: Option<SharedBytes>, vacancy: Vacancy) -> u64
         requires room { HasRoom new.f (length new.unique.now) (length new.body.now) self.old }
         requires vacant { IsVacant new.f new.unique.now self.old vacancy }
@@ -173,8 +173,8 @@ impl Jobs {
         self.jobs.get(n)
     }
 
-    /// The live job of this function with this unique id, and otherwise that there is none, which `insert` takes. There is none
-    /// where the id is empty or a dash.
+    /// The live job of this function with this unique id, and otherwise that there is none, which `insert` takes. There
+    /// is none where the id is empty or a dash.
     pub fn find(&self, f: u32, unique: &[u8]) -> Result<u64, Vacancy>
         ensures found { IfOk result (IsNamed f unique.now self.now) }
         ensures only { IfOk result (λ n. (m : ℕ) → IsNamed f unique.now self.now m → m ≡ n) }

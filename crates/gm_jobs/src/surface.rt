@@ -27,7 +27,8 @@ impl Jobs {
         self.find(f, unique).ok()
     }
 
-    /// `insert`, with a body that is copied. No live job of its function has its unique id, unless that is empty or a dash.
+    /// `insert`, with a body that is copied. No live job of its function has its unique id, unless that is empty or a
+    /// dash.
     pub fn insert_reserved(&mut self, new: NewJob<'_>) -> u64
         requires room { HasRoom new.f (length new.unique.now) (length new.body.now) self.old }
         requires single { (n : ℕ) → IsNamed new.f new.unique.now self.old n → ⊥ }

@@ -81,8 +81,8 @@ impl Uniques {
         }
     }
 
-    /// Makes room for one number more. The map grows a sixteenth before it is full, and so not in the call in which that of
-    /// the jobs grows.
+    /// Makes room for one number more. The map grows a sixteenth before it is full, and so not in the call in which
+    /// that of the jobs grows.
     pub(crate) fn reserve_one(&mut self) -> Result<(), AllocError>
         ensures kept { (d n : ℕ) → LeadsTo self.old d n → LeadsTo self.new d n }
         ensures room { self.old.room ≤ self.new.room }

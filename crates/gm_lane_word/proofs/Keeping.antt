@@ -51,7 +51,7 @@ replaced word next views seat v w at k small owner begun answered all =
 
 enters_keep : (word : ℕ) (views : List LaneView) → Keeps word views → Keeps word (views ++ entered word ∷ [])
 enters_keep zero views k = pushed 0 0 views fresh_view k k.small refl (λ is. absurd (omega arith)) refl (λ low. (low, refl))
-enters_keep (suc zero) views k = pushed 1 1 views fresh_view k k.small refl (λ is. let b = k.begun refl in omega arith) refl (λ low. (low, refl))
+enters_keep (suc zero) views k = pushed 1 1 views (entered 1) k k.small refl (λ is. let b = k.begun refl in omega arith) refl (λ low. (low, refl))
 enters_keep (suc (suc word)) views k =
     pushed (suc (suc word)) (suc (suc word)) views (entered (suc (suc word))) k k.small (omega arith) (λ is. absurd (omega arith)) refl (λ low. absurd (omega arith))
 

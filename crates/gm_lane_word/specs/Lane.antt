@@ -6,17 +6,18 @@ use Rattle.gm_lane_word.specs.declared.view.LaneView.{LaneView}
 
 -- a seat that has done nothing
 abbrev pub fresh_view : LaneView
-fresh_view = record { touches = 0; take_overs = 0; attempts = 0; hand_overs = 0; answers = 0; hold = Free }
+fresh_view = record { touches = 0; take_overs = 0; attempts = 0; hand_overs = 0; answers = 0; found = 0; hold = Free }
 
--- one touch more
-abbrev pub with_touch : Hold → LaneView → LaneView
-with_touch hold view = record view { touches = view.touches + 1; hold = hold }
+-- one touch more, which found this word
+abbrev pub with_touch : ℕ → Hold → LaneView → LaneView
+with_touch word hold view = record view { touches = view.touches + 1; found = word; hold = hold }
 
--- A new seat, by the word that it found: where an attempt is owed anyway, it has touched the lane, and needs no step more.
+-- A new seat, by the word that it found: where an attempt is owed anyway, it has touched the lane, and needs no step
+-- more.
 abbrev pub entered : ℕ → LaneView
 entered zero = fresh_view
-entered (suc zero) = fresh_view
-entered (suc (suc word)) = with_touch Free fresh_view
+entered (suc zero) = record fresh_view { found = 1 }
+entered (suc (suc word)) = with_touch (suc (suc word)) Free fresh_view
 
 -- a thread that touches an idle lane has it
 abbrev pub hold_touched : ℕ → Hold → Hold
@@ -24,7 +25,7 @@ hold_touched zero hold = Claims
 hold_touched (suc word) hold = hold
 
 abbrev pub touched : ℕ → LaneView → LaneView
-touched word view = with_touch (hold_touched word view.hold) view
+touched word view = with_touch word (hold_touched word view.hold) view
 
 -- a new seat, which touches and takes over: it has a lane that was idle or left
 abbrev pub hold_taken_over : ℕ → Hold
@@ -34,7 +35,7 @@ hold_taken_over (suc (suc zero)) = Free
 hold_taken_over (suc (suc (suc word))) = Claims
 
 abbrev pub taken_over : ℕ → LaneView
-taken_over word = with_touch (hold_taken_over word) record fresh_view { take_overs = 1 }
+taken_over word = with_touch word (hold_taken_over word) record fresh_view { take_overs = 1 }
 
 -- an attempt begins, the first to follow this number of touches
 abbrev pub attempted : ℕ → LaneView → LaneView

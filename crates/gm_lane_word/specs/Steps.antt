@@ -37,8 +37,8 @@ pub record IsLane (words : List ℕ) (views : List LaneView) : Type 0 where
   pub one : words ≡ word ∷ []
   pub reached : Reached word views
 
--- The rule of the word. One seat has the lane exactly where the word says so, and it has begun an attempt where the word is busy; and no
--- touch is without an attempt where the word is idle or busy.
+-- The rule of the word. One seat has the lane exactly where the word says so, and it has begun an attempt where the
+-- word is busy; and no touch is without an attempt where the word is idle or busy.
 pub record Keeps (word : ℕ) (views : List LaneView) : Type 0 where
   pub small : word < 4
   pub owner : owners_of views ≡ taken word

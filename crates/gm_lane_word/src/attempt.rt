@@ -32,8 +32,8 @@ impl<'a, T> Model for Attempt<'a, T> {
 }
 
 impl<'a, T: Drop> Attempt<'a, T> {
-    /// Ends the attempt, which took what was queued, and gives the lane up. An error means that the lane was touched since the attempt began:
-    /// the caller still has it, and owes another attempt.
+    /// Ends the attempt, which took what was queued, and gives the lane up. An error means that the lane was touched
+    /// since the attempt began: the caller still has it, and owes another attempt.
     pub fn finish(self, _taken: T) -> Result<Tally, Claim<'a, T>>
         ensures { MatchResult result (λ tally. tally ≡ self.entry) (λ claim. claim ≡ self.entry) }
     {

@@ -1,6 +1,6 @@
 //! Held by the thread that has the lane and owes an attempt.
 
-ghost use Rattle.std.specs.Prelude.{◌≡◌};
+ghost use Rattle.std.specs.Prelude.{◌≡◌, ◌<◌};
 ghost use Rattle.std.specs.Fn.{FnOnceReturnsAt, FnOnceTakesAt};
 ghost use Rattle.gm_lane_word.specs.Seats.{with_attempt, with_hand_over};
 
@@ -32,8 +32,9 @@ impl<'a, T> Model for Claim<'a, T> {
 }
 
 impl<'a, T> Claim<'a, T> {
-    /// Begins an attempt, which follows all touches so far, and then runs `take` once, which takes what is queued. `take` is
-    /// lent the `Attempt`, which there can't be before the attempt began, and the lane can't be given up before `take` returns.
+    /// Begins an attempt, which follows all touches so far, and then runs `take` once, which takes what is queued.
+    /// `take` is lent the `Attempt`, which there can't be before the attempt began, and the lane can't be given up
+    /// before `take` returns.
     pub fn attempt<X, F: FnOnce(&Attempt<'a, T>) -> X>(self, take: F) -> (Attempt<'a, T>, X)
         requires { FnOnceTakesAt F.FnOnce take (with_attempt self) }
         ensures begun { result.0 ≡ with_attempt self.entry }
@@ -47,8 +48,10 @@ impl<'a, T> Claim<'a, T> {
         (attempt, found)
     }
 
-    /// Leaves the lane and the attempt to the finisher, which is to be woken after this.
+    /// Leaves the lane and the next attempt to the finisher, which is to be woken after this. The caller made an
+    /// attempt before.
     pub fn hand_over(self) -> Tally
+        requires { 0 < self.attempts }
         ensures { result ≡ with_hand_over self.entry }
     {
         // Modelled in models/lane.h.

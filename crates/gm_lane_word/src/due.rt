@@ -2,7 +2,8 @@
 
 ghost use Rattle.std.specs.Prelude.{◌≡◌};
 
-/// Something was queued for the connection of a slot, or may have been. It can't be dropped: a touch of a lane takes it.
+/// Something was queued for the connection of a slot, or may have been. It can't be dropped: a touch of a lane takes
+/// it.
 pub struct Due {
     pub(crate) slot: u32,
 }

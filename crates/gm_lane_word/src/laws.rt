@@ -15,9 +15,10 @@ pub fn word_rule()
     ensures reached { (word : ℕ) (views : List LaneView) → Reached word views → Keeps word views }
 {}
 
-/// No delivery is forgotten: at any moment each touch so far was followed by an attempt that began after it, or a thread
-/// owes one: the thread that has the lane or the finisher, as the word says. An idle lane has no owner, and no touch of it
-/// is without an attempt. At most one has the lane. Nothing but an attempt follows touches, and it follows all that came before it.
+/// No delivery is forgotten: at any moment each touch so far was followed by an attempt that began after it, or a
+/// thread owes one: the thread that has the lane or the finisher, as the word says. An idle lane has no owner, and no
+/// touch of it is without an attempt. At most one has the lane. Nothing but an attempt follows touches, and it follows
+/// all that came before it.
 pub fn no_touch_is_forgotten()
     ensures followed { (word : ℕ) (views : List LaneView) → Reached word views
         → (touches_of views ≡ answers_of views) ⊎ IsClaimed word views }

@@ -22,5 +22,7 @@ pub struct LaneView {
     pub hand_overs: u64,
     /// How many touches, of whichever seat, its attempts were the first to follow.
     pub answers: u64,
+    /// The word that its last touch found, or that it found when it came.
+    pub found: u64,
     pub hold: Hold,
 }

@@ -2,11 +2,11 @@
 
 ghost use Rattle.std.specs.Prelude.{◌≡◌};
 ghost use Rattle.std.specs.Result.{MatchResult};
-ghost use Rattle.gm_lane_word.specs.Seats.{one_touch, one_take_over};
+ghost use Rattle.gm_lane_word.specs.Seats.{Count, with_hand_over, Touched, LeftToOthers, TakenOver, TakenBefore};
 
 use crate::claim::Claim;
 use crate::due::Due;
-use crate::rule::{Enter, LaneRule, TakeOver, Touch};
+use crate::rule::{Enter, HandOver, LaneRule, TakeOver, Touch};
 use crate::tally::Tally;
 use crate::view::LaneView;
 use atomic_table::Table;
@@ -25,8 +25,8 @@ pub(crate) const CLAIMED: u64 = 2;
 // The slot's finisher is to take the lane over.
 pub(crate) const LEFT: u64 = 3;
 
-/// The word of one lane, which all threads share. Contracts see which one it is. An attempt at it ends with a `T`, which says that what was queued was
-/// taken.
+/// The word of one lane, which all threads share. Contracts see which one it is. An attempt at it ends with a `T`,
+/// which says that what was queued was taken.
 #[derive(Drop)]
 pub struct LaneWord<T> {
     pub(crate) table: Table<(), LaneView, (), LaneRule, Global>,
@@ -57,10 +57,10 @@ impl<T> LaneWord<T> {
         })
     }
 
-    /// Touches the lane, after something was queued for its connection. Where no thread had the lane, the caller has it now,
-    /// and owes it an attempt. An error means that another thread tries, after this touch.
+    /// Touches the lane, after something was queued for its connection. If no thread had the lane, the caller has it
+    /// now, and owes it an attempt. An error means that another thread tries, after this touch.
     pub fn touch<'a>(&'a self, due: Due) -> Result<Claim<'a, T>, Tally>
-        ensures { MatchResult result (λ claim. claim ≡ one_touch self.now) (λ tally. tally ≡ one_touch self.now) }
+        ensures { MatchResult result (Touched self.now) (LeftToOthers self.now) }
     {
         // Modelled in models/lane.h.
         let Due { slot: _ } = due;
@@ -76,11 +76,23 @@ impl<T> LaneWord<T> {
         }
     }
 
-    /// Touches the lane as the slot's finisher, which has it now where no thread had it or it was left: when it
-    /// starts, since the last connection may have left the lane to its finisher, and whenever it is woken. An error means that
+    /// Touches the lane, and leaves it and the attempt to its finisher, which is to be woken after this. An error means
+    /// that another thread tries, after this touch, or that it was left already.
+    pub fn leave(&self, due: Due) -> Result<Tally, Tally>
+        ensures { MatchResult result (λ tally. (count : Count) × Touched self.now count × (tally ≡ with_hand_over count)) (LeftToOthers self.now) }
+    {
+        // Modelled in models/lane.h.
+        let claim = self.touch(due)?;
+        let Claim { word, mut seat } = claim;
+        word.table.shared.swap::<HandOver>(&mut seat, 0, LEFT);
+        Ok(Tally { seat })
+    }
+
+    /// Touches the lane as the slot's finisher, which has it now where no thread had it or it was left: when it starts,
+    /// since the last connection may have left the lane to its finisher, and whenever it is woken. An error means that
     /// another thread tries, after this touch.
     pub fn take_over<'a>(&'a self) -> Result<Claim<'a, T>, Tally>
-        ensures { MatchResult result (λ claim. claim ≡ one_take_over self.now) (λ tally. tally ≡ one_take_over self.now) }
+        ensures { MatchResult result (TakenOver self.now) (TakenBefore self.now) }
     {
         // Modelled in models/lane.h.
         let (found, seat) = self.table.shared.swap_new_seat::<TakeOver>(0, CLAIMED);
@@ -91,9 +103,10 @@ impl<T> LaneWord<T> {
         }
     }
 
-    /// The same, where the lane was left to it. An error means that it wasn't, or that another thread has taken it over since.
+    /// The same, where the lane was left to it. An error means that it wasn't, or that another thread has taken it over
+    /// since.
     pub fn take_over_left<'a>(&'a self) -> Result<Claim<'a, T>, Tally>
-        ensures { MatchResult result (λ claim. claim ≡ one_take_over self.now) (λ tally. tally.lane ≡ self.now) }
+        ensures { MatchResult result (TakenOver self.now) (λ tally. (tally.lane ≡ self.now) × (tally.found ≡ 3 → ⊥) × (tally.attempts ≡ 0) × (tally.hand_overs ≡ 0)) }
     {
         // Modelled in models/lane.h.
         let (found, seat) = self.table.shared.load_new_seat::<Enter>(0);

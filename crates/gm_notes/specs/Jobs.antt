@@ -242,8 +242,8 @@ rotated (Some f) abilities = behind f abilities ++ up_to f abilities
 abbrev pub scan : Settings → ℕ → List Note → List Ability
 scan k c notes = if k.round_robin then rotated (last_function c notes) (abilities c notes) else abilities c notes
 
--- the job that a grab of slot c gets: that of its first function for which one waits, or, with as_gearmand, that of the highest priority
--- that waits for any of its functions
+-- the job that a grab of slot c gets: that of its first function for which one waits, or, with as_gearmand, that of the
+-- highest priority that waits for any of its functions
 abbrev pub pick : Settings → ℕ → List Note → Option Pick
 pick k c notes = if k.as_gearmand then pick_highest (scan k c notes) notes else pick_from (scan k c notes) notes
 

@@ -6,8 +6,8 @@ use Rattle.gm_notes.specs.declared.config.ConfigError.{ConfigError}
 use Rattle.gm_notes.specs.declared.config.ConfigError.TheVariants.{BadName, BadNumber, BadSlots, BadFunctions}
 
 -- the name in job handles, the first job's number, the most connections and functions at once, whether a worker's
--- functions take turns, to how many workers a job may be given, 0 is no limit, and whether requests mean what gearmand's
--- applications mean by them
+-- functions take turns, to how many workers a job may be given, 0 is no limit, and whether requests mean what
+-- gearmand's applications mean by them
 pub record Settings : Type 0 where
   pub name : List ℕ
   pub first_job : ℕ

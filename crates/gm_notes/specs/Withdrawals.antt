@@ -18,8 +18,8 @@ abbrev pub asks_a_job : Result Asked RequestFault → Bool
 asks_a_job (Ok asked) = is_grab asked.kind
 asks_a_job (Err fault) = false
 
--- The event withdraws the NOOP that its slot is still owed: it is a closing, or reads as GRAB_JOB or GRAB_JOB_UNIQ, at a slot
--- that isn't shut.
+-- The event withdraws the NOOP that its slot is still owed: it is a closing, or reads as GRAB_JOB or GRAB_JOB_UNIQ, at
+-- a slot that isn't shut.
 abbrev pub withdraws_noop : Step → Past → Bool
 withdraws_noop (Packet c kind bytes) past = asks_a_job (request_of kind bytes) && not (is_closing c past)
 withdraws_noop (Close c) past = true

@@ -80,9 +80,9 @@ fn is_name(name: &[u8]) -> bool
 }
 
 impl Config {
-    /// Settings with this name in job handles, this number for the first job, and at most this many
-    /// connections and functions. A worker's functions don't take turns, a job may be given to any number of
-    /// workers, and requests mean what this server's documents say. What is wrong is answered in the order of `ConfigError`. It takes no memory.
+    /// Settings with this name in job handles, this number for the first job, and at most this many connections and
+    /// functions. A worker's functions don't take turns, a job may be given to any number of workers, and requests mean
+    /// what this server's documents say. What is wrong is answered in the order of `ConfigError`. It takes no memory.
     pub fn new(
         name: Vec<u8>,
         first_job: u64,
@@ -133,7 +133,8 @@ impl Config {
     }
 
     /// The same settings, but that a job may be given to `r` workers at most; 0 is no limit. When the last of them
-    /// disconnects before it has finished, the job isn't given out again and fails with the next tick. It takes no memory.
+    /// disconnects before it has finished, the job isn't given out again and fails with the next tick. It takes no
+    /// memory.
     pub fn with_retries(self, r: u32) -> Config
         ensures { result ≡ record self { retries = r } }
     {
@@ -148,8 +149,8 @@ impl Config {
         }
     }
 
-    /// The same settings, but that requests mean what gearmand's applications mean by them, or what this server's documents say.
-    /// It takes no memory.
+    /// The same settings, but that requests mean what gearmand's applications mean by them, or what this server's
+    /// documents say. It takes no memory.
     pub fn with_as_gearmand(self, on: bool) -> Config
         ensures { result ≡ record self { as_gearmand = on } }
     {

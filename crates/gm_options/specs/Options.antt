@@ -1,8 +1,11 @@
 -- What clap gets to know of the options, and what is read of its matches.
-use Rattle.std.specs.Prelude.{◌≡◌, ◌^◌, ◌<◌, ℕ, ℤ, Bool, true, false, [], ◌∷◌, Option, Some, None, codes, pos}
+use Rattle.std.specs.Prelude.{◌≡◌, ◌^◌, ◌<◌, ℕ, ℤ, Bool, true, false, List, [], ◌∷◌, Option, Some, None, codes, find, option_and_then, pos}
+use Rattle.std.specs.Str.{bytes_eq}
 use Rattle.std.specs.Int.{int_max, int_min}
 use Rattle.std.specs.Str.Parse.{IsNumeral, digits_value, without_leading_plus}
-use Rattle.clap.specs.Words.{App, Rule, Text, new_rule, with_rule, signed_between}
+use Rattle.clap.specs.Words.{App, Row, Rule, Text, new_rule, with_rule, signed_between}
+use Rattle.clap.specs.declared.parser.matches.ValueSource.{ValueSource}
+use Rattle.clap.specs.declared.parser.matches.ValueSource.TheVariants.{CommandLine}
 use Rattle.clap.specs.declared.builder.action.ArgAction.TheVariants.{SetTrue}
 
 -- ---- options
@@ -47,19 +50,23 @@ with_server_rules app =
 
 -- ---- what is read
 
--- the number that a text is, and whether it is one of 32 bits
+-- the number that a text is, and whether it is one of this many bits
 abbrev pub number_in : Text → ℕ
 number_in text = digits_value 10 (without_leading_plus text)
 
-abbrev pub IsNumber : Text → Type 0
-IsNumber text = IsNumeral 10 (without_leading_plus text) × (number_in text < 2 ^ 32)
+abbrev pub IsNumber : ℕ → Text → Type 0
+IsNumber bits text = IsNumeral 10 (without_leading_plus text) × (number_in text < 2 ^ bits)
 
--- the number that an option's text is, and this one where there is no text or it is no number
-abbrev pub ReadsNumber : Option Text → ℕ → ℕ → Type 0
-ReadsNumber None default value = value ≡ default
-ReadsNumber (Some text) default value = (IsNumber text → value ≡ number_in text) × ((IsNumber text → ⊥) → value ≡ default)
+-- the number of this many bits that an option's text is, and this one if there is no text or it is no such number
+abbrev pub ReadsNumber : ℕ → Option Text → ℕ → ℕ → Type 0
+ReadsNumber bits None default value = value ≡ default
+ReadsNumber bits (Some text) default value = (IsNumber bits text → value ≡ number_in text) × ((IsNumber bits text → ⊥) → value ≡ default)
 
--- whether an option that takes nothing was given
-abbrev pub ReadsFlag : Option Text → Bool → Type 0
-ReadsFlag None value = value ≡ false
-ReadsFlag (Some text) value = (text ≡ codes "true" → value ≡ true) × (text ≡ codes "false" → value ≡ false)
+-- whether it is the words from which a value comes, and not a default
+abbrev pub is_of_words : Option ValueSource → Bool
+is_of_words (Some CommandLine) = true
+is_of_words source = false
+
+-- whether the option of this name was given
+abbrev pub is_given : Text → List Row → Bool
+is_given name rows = is_of_words (option_and_then (λ (row : Row). row.source) (find (λ (row : Row). bytes_eq row.id name) rows))

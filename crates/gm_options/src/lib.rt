@@ -4,5 +4,8 @@
 mod options;
 mod program;
 
-pub use options::{JOBS, ServerOptions, flag, number, server_options, text, with_server_options};
+pub use options::{
+    JOBS, ServerOptions, flag, is_either_given, is_given, number, server_options, short_number,
+    text, with_server_options,
+};
 pub use program::{ArgumentsError, arguments};

@@ -1,9 +1,10 @@
 //! Options, and those of every job server.
 
-ghost use Rattle.std.specs.Prelude.{◌≡◌, ◌≤◌, ◌∷◌, [], IfOk, Some, codes, false, map, min, ℕ};
-ghost use Rattle.clap.specs.Words.{app_of, found_of, is_broken, items_of, one_text, rule_of};
-ghost use Rattle.gm_options.specs.Options.{number_rule, text_rule, flag_rule, with_server_rules, ReadsNumber, ReadsFlag};
+ghost use Rattle.std.specs.Prelude.{◌≡◌, ◌≤◌, ◌||◌, ◌∷◌, [], IfOk, Some, codes, false, map, min, ℕ};
+ghost use Rattle.clap.specs.Words.{app_of, found_of, is_broken, items_of, one_text, rows_of, rule_of};
+ghost use Rattle.gm_options.specs.Options.{number_rule, text_rule, flag_rule, with_server_rules, ReadsNumber, is_given};
 
+use clap::parser::ValueSource;
 use clap::{Arg, ArgAction, ArgMatches, Command};
 use gm_feeder::Limits;
 use std::alloc::{AllocError, Global};
@@ -78,7 +79,8 @@ pub fn flag<'a>(alloc: Global, name: &'a str, help: &'a str) -> Arg<'a>
 }
 
 /// The command with the options of every job server: how many connections there may be, how large a packet may be,
-/// whether a worker's functions take turns, to how many workers a job may be given, and whether it serves as gearmand does.
+/// whether a worker's functions take turns, to how many workers a job may be given, and whether it serves as gearmand
+/// does.
 pub fn with_server_options<'a>(
     alloc: Global,
     command: Command<'a>,
@@ -143,14 +145,42 @@ pub struct ServerOptions {
     pub as_gearmand: bool,
 }
 
-/// What the options of every job server ask for, where the command had them.
+/// Whether this option was given, so that its value isn't the default.
+pub fn is_given(matches: &ArgMatches<'_>, name: &str) -> bool
+    ensures { result ≡ is_given name.now (rows_of (found_of matches.now)) }
+{
+    match matches.value_source(name) {
+        Some(ValueSource::CommandLine) => true,
+        Some(ValueSource::DefaultValue) => false,
+        None => false,
+    }
+}
+
+/// Whether one of two options was given.
+pub fn is_either_given(matches: &ArgMatches<'_>, one: &str, other: &str) -> bool
+    ensures { result ≡ (is_given one.now (rows_of (found_of matches.now)) || is_given other.now (rows_of (found_of matches.now))) }
+{
+    if is_given(matches, one) {
+        return true;
+    }
+    is_given(matches, other)
+}
+
+/// The number of 16 bits that an option asks for, and this one if it asks for none.
+pub fn short_number(matches: &ArgMatches<'_>, option: &str, default: u16) -> u16
+    ensures { ReadsNumber 16 (one_text (found_of matches.now) option.now) default result }
+{
+    matches.get_one::<u16>(option).unwrap_or(default)
+}
+
+/// What the options of every job server ask for, if the command had them.
 pub fn server_options(matches: &ArgMatches<'_>) -> ServerOptions
-    ensures slots { ReadsNumber (one_text (found_of matches.now) (codes "slots")) 64 result.slots }
-    ensures max_data { (max : ℕ) × ReadsNumber (one_text (found_of matches.now) (codes "max-data")) 67108864 max × (result.limits.max_bytes ≡ min max 1073741824) }
+    ensures slots { ReadsNumber 32 (one_text (found_of matches.now) (codes "slots")) 64 result.slots }
+    ensures max_data { (max : ℕ) × ReadsNumber 32 (one_text (found_of matches.now) (codes "max-data")) 67108864 max × (result.limits.max_bytes ≡ min max 1073741824) }
     ensures max_line { result.limits.max_line ≡ 1024 }
-    ensures round_robin { ReadsFlag (one_text (found_of matches.now) (codes "round-robin")) result.round_robin }
-    ensures job_retries { ReadsNumber (one_text (found_of matches.now) (codes "job-retries")) 0 result.job_retries }
-    ensures as_gearmand { ReadsFlag (one_text (found_of matches.now) (codes "as-gearmand")) result.as_gearmand }
+    ensures round_robin { result.round_robin ≡ is_given (codes "round-robin") (rows_of (found_of matches.now)) }
+    ensures job_retries { ReadsNumber 32 (one_text (found_of matches.now) (codes "job-retries")) 0 result.job_retries }
+    ensures as_gearmand { result.as_gearmand ≡ is_given (codes "as-gearmand") (rows_of (found_of matches.now)) }
 {
     let max_data = matches.get_one::<u32>("max-data").unwrap_or(67_108_864);
     ServerOptions {
@@ -160,8 +190,8 @@ pub fn server_options(matches: &ArgMatches<'_>) -> ServerOptions
             max_bytes: max_data.min(MOST_DATA),
             max_line: MAX_LINE,
         },
-        round_robin: matches.get_flag("round-robin"),
+        round_robin: is_given(matches, "round-robin"),
         job_retries: matches.get_one::<u32>("job-retries").unwrap_or(0),
-        as_gearmand: matches.get_flag("as-gearmand"),
+        as_gearmand: is_given(matches, "as-gearmand"),
     }
 }

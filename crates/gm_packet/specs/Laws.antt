@@ -16,7 +16,7 @@ use Rattle.gm_packet.specs.Requests.{request_texts}
 abbrev pub KindsAreNumberedApart : Type 0
 KindsAreNumberedApart = (j k : Kind) → number j ≡ number k → j ≡ k
 
--- Where two packets, each with anything behind it, are the same bytes, they are the same packet.
+-- If two packets, each with anything behind it, are the same bytes, they are the same packet.
 abbrev pub NoPacketBeginsAnother : Type 0
 NoPacketBeginsAnother =
     (m n : List ℕ) (j k : ℕ) (a b x y : List ℕ)

@@ -98,7 +98,8 @@ pub fn read_timeout(digits: &[u8]) -> Option<u32>
     u32::try_from(read_decimal(digits, 10)?).ok()
 }
 
-/// A function and the text of its time limit, in the data of a CAN_DO_TIMEOUT: what is before the first NUL, and what is after it.
+/// A function and the text of its time limit, in the data of a CAN_DO_TIMEOUT: what is before the first NUL, and what
+/// is after it.
 pub fn function_and_limit(bytes: &[u8]) -> Option<(&[u8], &[u8])>
     ensures value { option_map (λ x. (x.0.now, x.1.now)) result ≡ cut (strip_last 0 bytes.now) }
     ensures within { IfSome result (λ x. length x.0.now ≤ length bytes.now) }

@@ -7,7 +7,7 @@ pub fn kinds_are_numbered_apart()
     ensures { KindsAreNumberedApart }
 {}
 
-/// No packet is a proper prefix of another. Where a packet followed by any bytes is the same as a packet
+/// No packet is a proper prefix of another. If a packet followed by any bytes is the same as a packet
 /// followed by any bytes, the magics, the types, the data and what follows are the same: so a stream can be
 /// cut into packets in one way only.
 pub fn no_packet_begins_another()

@@ -21,7 +21,8 @@ pub record Waking (server : PlainServer) (n slot left : ℕ) (k : Settings) (pas
   pub same : job n now.notes ≡ job n past.notes
   pub leads : wake_each_for (job n past.notes) (slots_from 0 k.slots) past ≡ wake_each_for (job n past.notes) (slots_from slot left) now
 
--- the server keeps a past from which doing this to the jobs that are left leads where doing it to all led from the first
+-- the server keeps a past from which doing this to the jobs that are left leads where doing it to all led from the
+-- first
 pub record Folding (server : PlainServer) (fold : List ℕ → Past → Past) (left all : List ℕ) (past : Past) : Type 0 where
   pub now : Past
   pub keeps : Keeps server now

@@ -52,8 +52,8 @@ abbrev pub noop_if : Bool → List ℕ
 noop_if true = answer_packet noop
 noop_if false = []
 
--- what is printed of slot c, which was shut before or wasn't: what waits for it and the NOOP that is owed to it, and whether
--- it became shut; nothing where it isn't open
+-- what is printed of slot c, which was shut before or wasn't: what waits for it and the NOOP that is owed to it, and
+-- whether it became shut; nothing where it isn't open
 abbrev pub told_of : ℕ → Bool → Past → List ℕ
 told_of c shut now =
     if is_open c now.notes then bytes_text c (waiting c now.flow ++ noop_if (owes c now)) ++ shut_text c (is_closing c now && not shut) else []

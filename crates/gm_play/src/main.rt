@@ -80,7 +80,7 @@ fn main(rt: HostRuntime) -> ExitCode {
     match run(&rt) {
         Ok(()) => ExitCode::SUCCESS,
         Err(error) => {
-            // Where standard error fails too, there is nobody left to tell.
+            // If standard error fails too, there is nobody left to tell.
             let _ = eprintln!(rt; "gm_play: {error}");
             ExitCode::from(error.status())
         }

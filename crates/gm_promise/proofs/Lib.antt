@@ -1,4 +1,1 @@
-pub mod Owning
 mod Promised
-mod Lives
-pub mod Accounted

@@ -1,4 +1,1 @@
-pub mod Owners
 pub mod Promise
-pub mod Connections
-pub mod Accounts

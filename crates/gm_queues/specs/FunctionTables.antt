@@ -10,8 +10,8 @@ use Rattle.gm_notes.specs.Jobs.{same_priority, rank}
 use Rattle.gm_notes.specs.Submissions.{max_name}
 use Rattle.gm_queues.specs.Queues.{Queue, Leaves, no_jobs, idle}
 
--- The seed with which it hashes; how many functions there may be; their names in the order of mention; their limits; and their
--- queues, three for each function, as `queue` finds them.
+-- The seed with which it hashes; how many functions there may be; their names in the order of mention; their limits;
+-- and their queues, three for each function, as `queue` finds them.
 pub record Table : Type 0 where
   pub seed : RandomState
   pub most : ℕ

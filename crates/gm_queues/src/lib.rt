@@ -7,7 +7,7 @@
 #![tactic(auto)]
 
 mod functions;
-mod hints;
+mod guesses;
 mod name_hash;
 mod ring;
 mod surface;

@@ -8,8 +8,8 @@ use std::hash::{BuildHasher, DefaultHasher, Hasher, RandomState};
 /// Where a tail is full: seven bytes behind a one.
 const FULL: u64 = 0x0100_0000_0000_0000;
 
-/// Hashes the names of functions. They are untrusted input, so it does so with a seed. A name's bytes come one by one, and
-/// go to the seed's own hash seven at a time, which costs a third of a write for each.
+/// Hashes the names of functions. They are untrusted input, so it does so with a seed. A name's bytes come one by one,
+/// and go to the seed's own hash seven at a time, which costs a third of a write for each.
 #[derive(Clone, Copy)]
 pub(crate) struct NameHash {
     seed: RandomState,

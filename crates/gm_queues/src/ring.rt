@@ -5,7 +5,7 @@ ghost use Rattle.std.specs.Prelude.{Some, None, IsSome, IfSome, IfNone, OnOk, On
 ghost use Rattle.std.specs.VecDeque.{deque_len, deque_capacity};
 ghost use Rattle.gm_queues.specs.Queues.{no_jobs, idle, with_reserved_one, without_reserved_one, with_job, without_first, Leaves, jobs_in};
 
-use crate::hints::Hints;
+use crate::guesses::Guesses;
 use std::alloc::{AllocError, Global};
 use std::collections::VecDeque;
 use std::marker::Model;
@@ -17,7 +17,7 @@ use std::marker::Model;
 #[derive(Drop)]
 pub(crate) struct Ring {
     entries: VecDeque<Option<u64>>,
-    hints: Hints,
+    guesses: Guesses,
     // How many entries aren't cleared.
     waiting: usize,
     // For how many jobs room is reserved, those that wait included.
@@ -43,7 +43,7 @@ impl Model for Ring {
 const MOST_RESERVED: usize = 1 << 56;
 
 // Drops the cleared entries at the front.
-fn skip_cleared(entries: &mut VecDeque<Option<u64>>, hints: &mut Hints)
+fn skip_cleared(entries: &mut VecDeque<Option<u64>>, guesses: &mut Guesses)
     ensures jobs { jobs_in entries.new.items ≡ jobs_in entries.old.items }
     ensures first { IfSome (slice_get entries.new.items 0) IsSome }
     ensures shorter { deque_len entries.new ≤ deque_len entries.old }
@@ -51,25 +51,25 @@ fn skip_cleared(entries: &mut VecDeque<Option<u64>>, hints: &mut Hints)
 {
     while let Some(None) = entries.front() {
         let _cleared = entries.pop_front();
-        hints.pass();
+        guesses.pass();
     }
 }
 
 // Drops all cleared entries.
-fn drop_cleared(entries: &mut VecDeque<Option<u64>>, hints: &mut Hints)
+fn drop_cleared(entries: &mut VecDeque<Option<u64>>, guesses: &mut Guesses)
     ensures jobs { jobs_in entries.new.items ≡ jobs_in entries.old.items }
     ensures len { deque_len entries.new ≡ length (jobs_in entries.old.items) }
     ensures capacity { deque_capacity entries.new ≡ deque_capacity entries.old }
 {
     entries.retain(|entry| entry.is_some());
-    hints.learn(entries);
+    guesses.learn(entries);
 }
 
 // Makes room for as many entries again, and a few.
 fn grow(
     alloc: Global,
     entries: &mut VecDeque<Option<u64>>,
-    hints: &mut Hints,
+    guesses: &mut Guesses,
 ) -> Result<(), AllocError>
     ensures items { entries.new.items ≡ entries.old.items }
     ensures len { deque_len entries.new ≡ deque_len entries.old }
@@ -77,10 +77,10 @@ fn grow(
     ensures ok { OnOk result (deque_capacity entries.old < deque_capacity entries.new) }
 {
     let room = entries.capacity().saturating_mul(2).saturating_add(4);
-    let mut wider = Hints::with_room(alloc, room)?;
+    let mut wider = Guesses::with_room(alloc, room)?;
     entries.reserve_exact(room - entries.len())?;
     wider.learn(entries);
-    *hints = wider;
+    *guesses = wider;
     Ok(())
 }
 
@@ -89,7 +89,7 @@ fn grow(
 fn make_room(
     alloc: Global,
     entries: &mut VecDeque<Option<u64>>,
-    hints: &mut Hints,
+    guesses: &mut Guesses,
     reserved: usize,
 ) -> Result<(), AllocError>
     requires { reserved ≤ deque_capacity entries.old }
@@ -98,20 +98,20 @@ fn make_room(
     ensures capacity { deque_capacity entries.old ≤ deque_capacity entries.new }
     ensures ok { OnOk result (reserved < deque_capacity entries.new) }
 {
-    drop_cleared(entries, hints);
+    drop_cleared(entries, guesses);
     if reserved < entries.capacity() / 2 {
         return Ok(());
     }
-    grow(alloc, entries, hints)
+    grow(alloc, entries, guesses)
 }
 
-// The index of the job. Hints lead to each job that waits, so only a job that doesn't is searched for from end
+// The index of the job. Guesses lead to each job that waits, so only a job that doesn't is searched for from end
 // to end.
-fn index_of(entries: &VecDeque<Option<u64>>, hints: &Hints, job: u64) -> Option<usize>
+fn index_of(entries: &VecDeque<Option<u64>>, guesses: &Guesses, job: u64) -> Option<usize>
     ensures found { IfSome result (λ i. slice_get entries.now.items i ≡ Some (Some job)) }
     ensures missing { IfNone result (¬ Contains (jobs_in entries.now.items) job) }
 {
-    if let Some(index) = hints.find(entries, job) {
+    if let Some(index) = guesses.find(entries, job) {
         return Some(index);
     }
     for index in 0..entries.len() {
@@ -129,7 +129,7 @@ impl Ring {
     {
         Ring {
             entries: VecDeque::new(alloc),
-            hints: Hints::new(alloc),
+            guesses: Guesses::new(alloc),
             waiting: 0,
             reserved: 0,
         }
@@ -145,7 +145,7 @@ impl Ring {
             return Err(AllocError);
         }
         if self.entries.len() + (self.reserved - self.waiting) == self.entries.capacity() {
-            make_room(alloc, &mut self.entries, &mut self.hints, self.reserved)?;
+            make_room(alloc, &mut self.entries, &mut self.guesses, self.reserved)?;
         }
         self.reserved += 1;
         Ok(())
@@ -165,7 +165,7 @@ impl Ring {
         ensures { self.new ≡ with_job job self.old }
     {
         let _pushed = self.entries.push_back(Some(job));
-        self.hints.add(job);
+        self.guesses.add(job);
         self.waiting += 1;
     }
 
@@ -175,11 +175,11 @@ impl Ring {
         ensures rest { self.new ≡ without_first self.old }
         ensures free { IsSome result → length self.new.jobs < self.new.reserved }
     {
-        skip_cleared(&mut self.entries, &mut self.hints);
+        skip_cleared(&mut self.entries, &mut self.guesses);
         let Some(Some(job)) = self.entries.pop_front() else {
             return None;
         };
-        self.hints.pass();
+        self.guesses.pass();
         self.waiting -= 1;
         Some(job)
     }
@@ -189,7 +189,7 @@ impl Ring {
         ensures value { result ≡ slice_get self.old.jobs 0 }
         ensures same { self.new ≡ self.old }
     {
-        skip_cleared(&mut self.entries, &mut self.hints);
+        skip_cleared(&mut self.entries, &mut self.guesses);
         *self.entries.front()?
     }
 
@@ -199,7 +199,7 @@ impl Ring {
         ensures leaves { Leaves job self.old self.new }
         ensures once { count_by (λ n. n == job) self.old.jobs ≡ 1 → self.new.jobs ≡ filter (λ n. not (n == job)) self.old.jobs }
     {
-        let Some(index) = index_of(&self.entries, &self.hints, job) else {
+        let Some(index) = index_of(&self.entries, &self.guesses, job) else {
             return;
         };
         self.entries[index] = None;
@@ -211,7 +211,7 @@ impl Ring {
     pub(crate) fn contains(&self, job: u64) -> bool
         ensures { IsTrue result ↔ Contains self.now.jobs job }
     {
-        index_of(&self.entries, &self.hints, job).is_some()
+        index_of(&self.entries, &self.guesses, job).is_some()
     }
 
     /// How many jobs wait.

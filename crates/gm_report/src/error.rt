@@ -13,7 +13,8 @@ pub enum ServeError {
     /// connection's end couldn't be entered on the tape.
     #[error("out of memory")]
     Memory = 6,
-    /// The tape differs from what the connections were told, the book still has a slot open, or a lane wasn't given each connection.
+    /// The tape differs from what the connections were told, the book still has a slot open, or a lane wasn't given
+    /// each connection.
     #[error("the tape differs from what the connections were told")]
     Differs = 16,
     /// The listener failed.

@@ -1,5 +1,5 @@
-//! What is to be said to operators, and when: a trouble once, and again only after it was over; each type of packet that `gmd`
-//! doesn't serve once, for the first 64 such types.
+//! What is to be said to operators, and when: a trouble once, and again only after it was over; each type of packet
+//! that `gmd` doesn't serve once, for the first 64 such types.
 
 ghost use Rattle.std.specs.Prelude.{◌≡◌, ◌++◌, ◌∷◌, [], ◌&&◌, not, true, false, take};
 ghost use Rattle.std.specs.Prelude.{◌-◌, nat_lt, nat_le};
@@ -8,7 +8,7 @@ ghost use Rattle.gm_report.specs.Notices.{met, is_well, cleared, spoken, is_of_t
 
 use crate::error::ServeError;
 use crate::summary::Summary;
-use crate::timing::SAID_AGAIN_MS;
+use gm_time::SAID_AGAIN_MS;
 use std::net::SocketAddr;
 
 /// How many kinds of trouble there are.
@@ -121,8 +121,8 @@ pub(crate) struct Notices {
     pub(crate) timed_out: u64,
     /// How many packets came that aren't requests.
     pub(crate) not_served: u64,
-    /// The types of packets that came and aren't requests: the first `type_count` are types that came, each with the peer that sent the
-    /// first such packet.
+    /// The types of packets that came and aren't requests: the first `type_count` are types that came, each with the
+    /// peer that sent the first such packet.
     types: [(u32, Option<SocketAddr>); MOST_TYPES],
     type_count: usize,
     /// How many of them were said.
@@ -199,8 +199,8 @@ impl Notices {
             .any(|one| one.0 == kind)
     }
 
-    /// A packet of this type came from this peer, which isn't a request's. It says whether that is to be said: the first time, while there
-    /// is a place for the type.
+    /// A packet of this type came from this peer, which isn't a request's. It says whether that is to be said: the
+    /// first time, while there is a place for the type.
     pub(crate) fn note(&mut self, kind: u32, peer: Option<SocketAddr>) -> bool
         ensures first { result ≡ (nat_lt self.old.type_count 64 && not (list_any (is_of_type kind) (take self.old.type_count self.old.types))) }
         ensures noted { result ≡ true → take self.new.type_count self.new.types ≡ take self.old.type_count self.old.types ++ (kind, peer) ∷ [] }
@@ -216,8 +216,8 @@ impl Notices {
         true
     }
 
-    /// At this time, in milliseconds, a grab of the type GRAB_JOB_ALL came that isn't the first. It says whether that is to be said: once
-    /// a minute.
+    /// At this time, in milliseconds, a grab of the type GRAB_JOB_ALL came that isn't the first. It says whether that
+    /// is to be said: once a minute.
     pub(crate) fn count_grab(&mut self, now_ms: u64) -> bool
         ensures { result ≡ nat_le 60000 (now_ms - self.old.grabs_said_ms) }
     {

@@ -1,5 +1,5 @@
-//! How the status of a server is told: that it is ready, how many slots it uses, how many connections it refused and cut, and how many
-//! packets it didn't serve.
+//! How the status of a server is told: that it is ready, how many slots it uses, how many connections it refused and
+//! cut, and how many packets it didn't serve.
 
 use crate::notices::Trouble;
 use crate::speaking::Speaker;
@@ -70,8 +70,8 @@ impl<'w, W: Write> Announcer<'w, W> {
         announcer
     }
 
-    /// Announces that the server's book is open, its threads are there, and it is about to take connections, and says whether the output
-    /// took that. Where not, the server is to end at once.
+    /// Announces that the server's book is open, its threads are there, and it is about to take connections, and says
+    /// whether the output took that. If not, the server is to end at once.
     pub fn announce(&mut self, rt: &impl Wait, speaker: &Speaker) -> bool {
         let line: &[u8] = if self.as_gearmand {
             b"gmd: listening, as gearmand\n"
@@ -85,7 +85,7 @@ impl<'w, W: Write> Announcer<'w, W> {
         self.is_well
     }
 
-    /// Sends systemd a message, if it is told, and says whether that is done. Where it fails, that is said.
+    /// Sends systemd a message, if it is told, and says whether that is done. If it fails, that is said.
     fn send(&self, rt: &impl Wait, speaker: &Speaker, message: &[u8]) -> bool {
         let outcome = match &self.systemd {
             Ok(Some(address)) => send_message(address, message),
@@ -104,12 +104,13 @@ impl<'w, W: Write> Announcer<'w, W> {
         }
     }
 
-    /// Tells systemd that the service is ready. Where that fails it can serve without, and is tried again.
+    /// Tells systemd that the service is ready. If that fails it can serve without, and is tried again.
     fn tell_ready(&mut self, rt: &impl Wait, speaker: &Speaker) {
         self.is_ready = self.send(rt, speaker, b"READY=1");
     }
 
-    /// Tells systemd how the service is, unless that is what was told last. It has this many connections open, of this many slots.
+    /// Tells systemd how the service is, unless that is what was told last. It has this many connections open, of this
+    /// many slots.
     pub fn tell(&mut self, rt: &impl Wait, speaker: &Speaker, connections: u64, slots: u32) {
         let report = speaker.report(rt, connections, slots);
         if !self.is_ready {

@@ -1,12 +1,12 @@
-//! What is said on standard error while a server runs and when it ends: by a thread of its own, so that no other waits for whoever reads
-//! that.
+//! What is said on standard error while a server runs and when it ends: by a thread of its own, so that no other waits
+//! for whoever reads that.
 
 use crate::error::ServeError;
 use crate::levels::Levels;
 use crate::notices::{GRAB_JOB_ALL, Notices, Remark, TROUBLES, Trouble};
 use crate::ready::Report;
 use crate::summary::Summary;
-use crate::timing::{PAUSE_MS, SAYING_TIME_MS, now_ms};
+use gm_time::{PAUSE_MS, SAYING_TIME_MS, now_ms};
 use std::alloc::{AllocError, Global};
 use std::io::Error;
 use std::net::SocketAddr;
@@ -25,8 +25,8 @@ pub struct Speaker {
 }
 
 impl Speaker {
-    /// Starts the thread that speaks, of a server with this many slots: with the journal's levels before what it says, or without.
-    /// Where it can't be made, nothing is said before the end.
+    /// Starts the thread that speaks, of a server with this many slots: with the journal's levels before what it says,
+    /// or without. If it can't be made, nothing is said before the end.
     pub fn start<R: Threads + Wait + Clock + Eprint + Copy + Send + 'static>(
         rt: &R,
         alloc: Global,
@@ -159,7 +159,7 @@ impl Speaker {
     }
 }
 
-/// Says what is due. Where standard error fails, there is nobody to tell.
+/// Says what is due. If standard error fails, there is nobody to tell.
 fn say_due(rt: &impl Eprint, level: &'static str, remarks: &Notices, slots: u32) {
     for (kind, peer) in remarks.due_types() {
         say_type(rt, level, *kind, peer);

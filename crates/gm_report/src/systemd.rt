@@ -1,5 +1,5 @@
-//! What systemd and a service tell each other: which sockets are handed over to it (sd_listen_fds(3)), and that it is ready
-//! (sd_notify(3)).
+//! What systemd and a service tell each other: which sockets are handed over to it (sd_listen_fds(3)), and that it is
+//! ready (sd_notify(3)).
 
 ghost use Rattle.std.specs.Prelude.{◌≤◌};
 

@@ -11,7 +11,10 @@ use Rattle.gm_server.specs.declared.outcome.RunError.{RunError}
 use Rattle.gm_server.specs.declared.outcome.RunError.TheVariants as errors
 use Rattle.gm_server.specs.Arguments.{asked_settings}
 use Rattle.gm_server.specs.Options.{fault_in, Reads}
-use Rattle.gm_slots.specs.Served.{EndsSo}
+use Rattle.gm_report.specs.declared.error.ServeError.{ServeError}
+use Rattle.gm_report.specs.declared.summary.Summary.{Summary}
+use Rattle.gm_slots.specs.declared.served.Served.{Served as Ended}
+use Rattle.gm_slots.specs.Served.{EndsSo, summary_of}
 
 -- ---- words that aren't run
 
@@ -40,6 +43,13 @@ abbrev pub said_as : Bool → Result Outcome RunError
 said_as true = Ok Said
 said_as false = Err errors.Output
 
+-- ---- the end
+
+-- what is said of a server that served, or couldn't
+abbrev pub said_of : Result Ended ServeError → Result Summary ServeError
+said_of (Ok served) = summary_of served.book
+said_of (Err error) = Err error
+
 -- ---- words that are run
 
 -- they are valid, and ask for this
@@ -65,8 +75,9 @@ DoesSo args (Err error) = FailsSo args error
 
 -- ---- all words
 
--- It only said something where that is asked for. It served as the words ask, and hands out its book as it was settled. It says that the words are
--- invalid only where they are, and refuses the name only where it can't be part of a handle. Any other error but for memory comes of valid words.
+-- It only said something where that is asked for. It served as the words ask, and hands out its book as it was settled.
+-- It says that the words are invalid only where they are, and refuses the name only where it can't be part of a handle.
+-- Any other error but for memory comes of valid words.
 abbrev pub EndsAs : List Text → Result Outcome RunError → Type 0
 EndsAs words (Ok Said) = AskHelp words ⊎ ((args : Args) × Ask words args × (args.check ≡ true))
 EndsAs words (Ok (Served served)) = (args : Args) × Ask words args × (args.check ≡ false) × EndsSo (asked_settings args) args.tape args.server.limits served

@@ -5,10 +5,12 @@ ghost use Rattle.clap.specs.Words.{app_of, FailsBy};
 ghost use Rattle.gm_server.specs.Options.{gmd_app, fault_in, Reads};
 ghost use Rattle.gm_server.specs.Options.{with_address_rules, with_name_rule, with_timeout_rule, with_threads_rule, with_flag_rules};
 
-use clap::parser::ValueSource;
-use clap::{ArgMatches, Command, Error};
+use clap::{Command, Error};
 use gm_admin::VERSION;
-use gm_options::{JOBS, ServerOptions, flag, number, server_options, text, with_server_options};
+use gm_options::{
+    JOBS, ServerOptions, flag, is_either_given, is_given, number, server_options, short_number,
+    text, with_server_options,
+};
 use std::alloc::{AllocError, Global};
 use std::convert::AsStr;
 
@@ -143,11 +145,6 @@ fn command<'a>(alloc: Global) -> Result<Command<'a>, AllocError>
     with_flags(alloc, with_io_threads(alloc, command)?)
 }
 
-/// Whether this option was given.
-fn is_given(matches: &ArgMatches<'_>, option: &str) -> bool {
-    matches.value_source(option) == Some(ValueSource::CommandLine)
-}
-
 /// What the arguments ask for, of which the first is the program's name.
 pub(crate) fn parse_args<'a, S: AsStr>(alloc: Global, args: &'a [S]) -> Result<Args<'a>, Error>
     ensures kinds { FailsBy (fault_in (map S.text args.entry.now)) result }
@@ -155,16 +152,16 @@ pub(crate) fn parse_args<'a, S: AsStr>(alloc: Global, args: &'a [S]) -> Result<A
 {
     let matches = command(alloc)?.try_get_matches_from(args)?;
     Ok(Args {
-        port: matches.get_one::<u16>("port").unwrap_or(4730),
+        port: short_number(&matches, "port", 4730),
         listen: matches.get_str("listen").unwrap_or("0.0.0.0"),
-        has_address: is_given(&matches, "port") || is_given(&matches, "listen"),
+        has_address: is_either_given(&matches, "port", "listen"),
         name: matches.get_str("name").unwrap_or("gmd"),
         server: server_options(&matches),
-        peer_timeout: matches.get_one::<u16>("peer-timeout").unwrap_or(120),
+        peer_timeout: short_number(&matches, "peer-timeout", 120),
         has_peer_timeout: is_given(&matches, "peer-timeout"),
-        io_threads: matches.get_one::<u16>("io-threads").unwrap_or(0),
+        io_threads: short_number(&matches, "io-threads", 0),
         has_io_threads: is_given(&matches, "io-threads"),
-        check: matches.get_flag("check"),
-        tape: matches.get_flag("tape"),
+        check: is_given(&matches, "check"),
+        tape: is_given(&matches, "tape"),
     })
 }

@@ -1,8 +1,9 @@
-//! A job server over sockets, and the program `gmd` as a function of its arguments. What the server's threads do is gm_threads', what is
-//! proved of them gm_promise's.
+//! A job server over sockets, and the program `gmd` as a function of its arguments. What the server's threads do is
+//! gm_threads', what is proved of them gm_slots' and gm_promise's.
 #![tactic(auto)]
 
 mod args;
+pub mod laws;
 mod outcome;
 mod run;
 

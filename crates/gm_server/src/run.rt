@@ -6,13 +6,13 @@ ghost use Rattle.clap.specs.Words.{kind_of};
 ghost use Rattle.gm_server.specs.Arguments.{asked_settings};
 ghost use Rattle.gm_slots.specs.Served.{EndsSo};
 ghost use Rattle.gm_server.specs.Statuses.{ended_status};
-ghost use Rattle.gm_server.specs.Outcomes.{is_of_words, said_as, SaysSo, FailsSo, DoesSo, EndsAs};
+ghost use Rattle.gm_server.specs.Outcomes.{is_of_words, said_as, said_of, SaysSo, FailsSo, DoesSo, EndsAs};
 
 use crate::args::{Args, parse_args};
 use crate::outcome::{Outcome, RunError, report, status_of};
 use clap::error::ErrorKind;
 use gm_notes::{Config, MAX_FUNCTIONS};
-use gm_report::{Announcer, Levels, ServeError, Speaker, first_socket, handed_sockets};
+use gm_report::{Announcer, Levels, ServeError, Speaker, Summary, first_socket, handed_sockets};
 use gm_session::OpenGate;
 use gm_threads::{Crews, Hub, Poller, Served, Service, Settings, serve_with};
 use std::alloc::{AllocError, Global};
@@ -49,7 +49,7 @@ fn print_help_or_error<W: Write>(
         return Err(RunError::Serve(ServeError::Memory));
     }
     if error.use_stderr() {
-        // Where standard error fails, there is nobody left to tell.
+        // If standard error fails, there is nobody left to tell.
         let _ = rt.eprint(error);
         return Err(RunError::Arguments);
     }
@@ -169,6 +169,16 @@ fn crews_of(rt: &impl Net, alloc: Global, args: Args<'_>) -> Result<(Crews, Vec<
     }
 }
 
+/// What is said of how the server ended.
+fn said_of(ended: &Result<Served, ServeError>) -> Result<Summary, ServeError>
+    ensures { result ≡ said_of ended.now }
+{
+    match ended {
+        Ok(served) => served.summary(),
+        Err(error) => Err(*error),
+    }
+}
+
 /// Says how the server ended.
 fn tell_end(
     rt: &(impl Wait + Clock + Eprint),
@@ -178,15 +188,11 @@ fn tell_end(
     ensures served { IfOk result (λ served. ended ≡ Ok served) }
     ensures fails { IfErr result (λ error. is_of_words error ≡ false) }
 {
+    // No contract says what a program writes to standard error: docs/check counts this line.
+    speaker.remark_end(rt, said_of(&ended));
     match ended {
-        Ok(served) => {
-            speaker.remark_end(rt, served.summary());
-            Ok(served)
-        }
-        Err(error) => {
-            speaker.remark_end(rt, Err(error));
-            Err(RunError::Ended(error))
-        }
+        Ok(served) => Ok(served),
+        Err(error) => Err(RunError::Ended(error)),
     }
 }
 
@@ -295,9 +301,9 @@ pub(crate) fn outcome_of<
     ended
 }
 
-/// Runs the program on its arguments, of which the first is its name, with this standard output, and answers the status that
-/// it is to end with (`status_of`). The options are those of gearmand(8) of the same names, `--io-threads`, `--peer-timeout`,
-/// `--tape` and `--check`.
+/// Runs the program on its arguments, of which the first is its name, with this standard output, and answers the status
+/// that it is to end with (`status_of`). The options are those of gearmand(8) of the same names, `--io-threads`,
+/// `--peer-timeout`, `--tape` and `--check`.
 pub fn run_words<
     S: AsStr,
     R: Threads

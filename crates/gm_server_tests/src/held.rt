@@ -35,9 +35,9 @@ fn served<R: Threads + Wait + Clock + RandomSource + Eprint + Copy + Send + Sync
         tape: false,
     };
     let served = serve(rt, alloc, seed, listener, settings, hold).ok()?;
-    let connections = served.connections;
+    let summary = served.summary();
     drop(served);
-    Some(connections)
+    Some(summary.ok()?.connections)
 }
 
 /// Holds what slot 0 sends, from one of its units on, until the client of slot 1 has read its answer, but not for ever.
@@ -221,8 +221,8 @@ fn beside<
     Ok(both)
 }
 
-/// The script goes right beside a server with this gate, which opens this many connections, holds what it is to hold, and nothing
-/// for ever.
+/// The script goes right beside a server with this gate, which opens this many connections, holds what it is to hold,
+/// and nothing for ever.
 fn goes_right<
     R: Threads
         + Wait

@@ -1,5 +1,5 @@
-//! Tests of a server with a gate: its connections, of which one is held at a unit. It holds nothing else. What can be seen from outside is
-//! tested at the program, by the scripts of tests/.
+//! Tests of a server with a gate: its connections, of which one is held at a unit. It holds nothing else. What can be
+//! seen from outside is tested at the program, by the scripts of tests/.
 #![tactic(auto)]
 
 #[cfg(test)]

@@ -1,13 +1,15 @@
 -- What came of events, one after another.
-use Rattle.std.proofs.Common.{◌≡◌, ℕ, Bool, List, Result, Ok, Err, sym, subst}
+use Rattle.std.proofs.Common.{◌≡◌, ℕ, Bool, List, Result, Ok, Err, refl, sym, subst}
 use Rattle.gm_notes.specs.declared.event.ApplyError.{ApplyError}
+use Rattle.gm_notes.specs.declared.states.Mode.{Mode}
+use Rattle.gm_notes.specs.declared.states.Mode.TheVariants.{Running, Graceful, Stopped}
 use Rattle.gm_notes.specs.Settings.{Settings}
 use Rattle.gm_notes.specs.Steps.{Step}
 use Rattle.gm_shared.specs.declared.receipt.Receipt.{Receipt}
 use Rattle.gm_shared.specs.declared.tape.Entry.{Entry}
 use Rattle.gm_shared.specs.Calls.{HandedIn, if_taken}
 use Rattle.gm_session.specs.Talks.{TalkState}
-use Rattle.gm_session.specs.Effects.{EffectsState, Keeps, Gathers, nothing, event, tick, refusal, Ticks}
+use Rattle.gm_session.specs.Effects.{EffectsState, Keeps, Gathers, nothing, event, tick, refusal, Ticks, later}
 
 gathers_on : (k : Settings) (taped : Bool) (desk : ℕ) (seen mid : List Entry) (old between : EffectsState) → Gathers k taped desk seen old mid between
     → (after : List Entry) (new : EffectsState) → Gathers k taped desk mid between after new → Gathers k taped desk seen old after new
@@ -40,7 +42,15 @@ gathers_from k taped t u after old new is g = subst (λ (s : TalkState). Gathers
 
 -- ---- ticks
 
+later_running : (mode : Mode) → mode ≡ later mode Running
+later_running Running = refl
+later_running Graceful = refl
+later_running Stopped = refl
+
+pub ticks_none : (old : EffectsState) → Ticks old old
+ticks_none old = (Running, record { slots = λ c h. h; mode_is = later_running old.mode })
+
 pub ticks_one : (k : Settings) (taped : Bool) (s : Step) (desk : ℕ) (answer : Result Receipt ApplyError) (before after : List Entry) (old new : EffectsState)
     → Keeps k taped s desk answer before after old new → Ticks old new
-ticks_one k taped s desk (Ok receipt) before after old new keeps = keeps.kept.slots
-ticks_one k taped s desk (Err refused) before after old new keeps = subst (λ (e : EffectsState). Ticks old e) (sym keeps.kept) (λ c h. h)
+ticks_one k taped s desk (Ok receipt) before after old new keeps = (receipt.mode, keeps.kept)
+ticks_one k taped s desk (Err refused) before after old new keeps = subst (λ (e : EffectsState). Ticks old e) (sym keeps.kept) (ticks_none old)

@@ -1,5 +1,5 @@
 -- What a session hands in, unit after unit and piece after piece.
-use Rattle.std.proofs.Common.{◌≡◌, ℕ, Bool, false, List, [], ◌∷◌, ◌++◌, map, Option, Some, None, Result, Ok, Err, length}
+use Rattle.std.proofs.Common.{◌≡◌, ℕ, Bool, true, false, List, [], ◌∷◌, ◌++◌, map, Option, Some, None, Result, Ok, Err, length}
 use Rattle.std.proofs.Common.{refl, sym, ap, ap₂, subst, ◌∙◌, arith, length-append}
 use Rattle.std.specs.Prelude.{IfSome}
 use Rattle.std.proofs.lemmas.List.{append-nil, append_assoc, map-append, reverse-append}
@@ -20,11 +20,9 @@ use Rattle.gm_shared.specs.declared.tape.Entry.{Entry}
 use Rattle.gm_shared.proofs.Sharing.{events_of_more}
 use Rattle.gm_session.specs.declared.session.SessionEnd.{SessionEnd}
 use Rattle.gm_session.specs.declared.session.SessionEnd.TheVariants as ends
-use Rattle.gm_session.specs.declared.session.Turn.{Turn}
-use Rattle.gm_session.specs.declared.session.Turn.TheVariants as turns
 use Rattle.gm_session.specs.declared.applier.Taken.{Taken}
 use Rattle.gm_session.specs.declared.applier.Taken.TheVariants.{Unit as AUnit, Nothing}
-use Rattle.gm_session.specs.Sessions.{Adds, HandsIn, Reads, Applies, Stops, TakesNext, Unloads, Fed, Steps, Ends, broke, unread, IsShutBy, StandsNext, unit, broken, may_leave}
+use Rattle.gm_session.specs.Sessions.{Adds, HandsIn, Reads, Applies, Stops, TakesNext, Unloads, Fed, Steps, Ends, broke, unread, IsShutBy, StandsNext, unit, broken, IsWhole, IsBroken}
 
 -- ---- events handed in, one after another
 
@@ -88,7 +86,7 @@ module _ (k : Settings) (taped : Bool) (desk c : ℕ) (old : Stream) (seen mid_s
     limited = ap (λ (s : Stream). s.limits) t.1.kept ∙ u.limited;
   }
 
-  pub unloads_all : TakesNext k taped desk c mid (Ok Nothing) mid_seen after new → Unloads k taped desk c old (Ok turns.Emptied) seen after new
+  pub unloads_all : TakesNext k taped desk c mid (Ok Nothing) mid_seen after new → Unloads k taped desk c old (Ok tt) false seen after new
   unloads_all t = record {
     hands = hands k desk c old.limits old.pending new.pending None seen mid_seen after
         (subst (λ (s : Stream). Handed k desk c old.limits old.pending s.pending seen mid_seen) (sym t.0.kept) u.handed) tt
@@ -98,8 +96,8 @@ module _ (k : Settings) (taped : Bool) (desk c : ℕ) (old : Stream) (seen mid_s
   }
 
   -- the unit that stands there was refused, or the fault was applied
-  pub unloads_stops : (end : SessionEnd) → Stops k taped desk c mid end mid_seen after → Unloads k taped desk c old (Err end) seen after new
-  unloads_stops end t = record {
+  pub unloads_stops : (end : SessionEnd) → Stops k taped desk c mid end mid_seen after → (units : Bool) → Unloads k taped desk c old (Err end) units seen after new
+  unloads_stops end t units = record {
     rest = mid.pending;
     fault = t.fault;
     hands = hands k desk c old.limits old.pending mid.pending t.fault seen mid_seen after u.handed
@@ -109,7 +107,7 @@ module _ (k : Settings) (taped : Bool) (desk c : ℕ) (old : Stream) (seen mid_s
   }
 
 -- what was taken is not all, perhaps
-pub unloads_some : (k : Settings) (taped : Bool) (desk c : ℕ) (old : Stream) (seen after : List Entry) (new : Stream) → Unloading k desk c old seen after new → Unloads k taped desk c old (Ok turns.Cut) seen after new
+pub unloads_some : (k : Settings) (taped : Bool) (desk c : ℕ) (old : Stream) (seen after : List Entry) (new : Stream) → Unloading k desk c old seen after new → Unloads k taped desk c old (Ok tt) true seen after new
 unloads_some k taped desk c old seen after new u = record {
   hands = hands k desk c old.limits old.pending new.pending None seen after after u.handed tt (adds_none desk after);
   waits = λ is. absurd cc;
@@ -143,7 +141,7 @@ module _ (k : Settings) (taped : Bool) (desk c : ℕ) (old mid new : Stream) (se
     fault = Some fault;
     stands = fault_stands fault g;
     adds = applies;
-    broken = λ whole. whole;
+    broken = tt;
     shut = λ is. tt;
   }
 
@@ -177,9 +175,15 @@ pub consumes_none : (a : Option (List ℕ)) → Consumes a a []
 consumes_none None = tt
 consumes_none (Some xa) = refl
 
-emptied : (turn : Turn) → may_leave turn ≡ false → turn ≡ turns.Emptied
-emptied turns.Emptied none = refl
-emptied turns.Cut none = absurd cc
+-- what breaks a session isn't what ends it as a whole
+broken_unwhole : (end : SessionEnd) → IsBroken end → IsWhole end → ⊥
+broken_unwhole ends.Ended is whole = is
+broken_unwhole ends.ReadFault is whole = is
+broken_unwhole ends.Shut is whole = whole
+broken_unwhole ends.Memory is whole = whole
+broken_unwhole ends.Turns is whole = is
+broken_unwhole ends.Stopped is whole = is
+broken_unwhole ends.NoThread is whole = is
 
 -- so much was read, and all of it that is a unit was handed in, unless some may be left
 pub record Reading (k : Settings) (desk c : ℕ) (limits : Limits) (old now : Option (List ℕ)) (seen after : List Entry) (feeder : Stream) (units : Bool) : Type 0 where
@@ -206,12 +210,12 @@ reading_none k desk c old seen feeder units empty = record {
 }
 
 -- a piece came, and had its turn
-pub step_took : (k : Settings) (taped : Bool) (desk c : ℕ) (input left heard after_heard : Option (List ℕ)) (feeder fed next : Stream) (units : Bool) (outcome : Result Turn SessionEnd) (seen after : List Entry)
-    → Fed input left heard after_heard feeder fed → Unloads k taped desk c fed outcome seen after next → Steps k taped desk c feeder units input left heard after_heard outcome seen after next
-step_took k taped desk c input left heard after_heard feeder fed next units (Ok turn) seen after came taken =
-    record { piece = came.piece; consumes = came.consumes; hears = came.hears; goes_on = subst (λ (s : Stream). Unloads k taped desk c s (Ok turn) seen after next) came.kept taken }
-step_took k taped desk c input left heard after_heard feeder fed next units (Err end) seen after came taken =
-    broke came.piece came.consumes came.hears (subst (λ (s : Stream). Unloads k taped desk c s (Err end) seen after next) came.kept taken)
+pub step_took : (k : Settings) (taped : Bool) (desk c : ℕ) (input left heard after_heard : Option (List ℕ)) (feeder fed next : Stream) (units later : Bool) (outcome : Result (Unit {0}) SessionEnd) (seen after : List Entry)
+    → Fed input left heard after_heard feeder fed → Unloads k taped desk c fed outcome later seen after next → Steps k taped desk c feeder units input left heard after_heard outcome later seen after next
+step_took k taped desk c input left heard after_heard feeder fed next units later (Ok done) seen after came taken =
+    record { piece = came.piece; consumes = came.consumes; hears = came.hears; goes_on = subst (λ (s : Stream). Unloads k taped desk c s (Ok done) later seen after next) came.kept taken }
+step_took k taped desk c input left heard after_heard feeder fed next units later (Err end) seen after came taken =
+    broke came.piece came.consumes came.hears (subst (λ (s : Stream). Unloads k taped desk c s (Err end) later seen after next) came.kept taken)
 
 appends_none : (a : Option (List ℕ)) → Appends a a []
 appends_none None = tt
@@ -246,22 +250,20 @@ module _ (k : Settings) (taped : Bool) (desk c : ℕ) (limits : Limits) (old now
             (steps_then k c r.handed.items h.items fault) (adds_then desk (map (step_of_unit k c) r.handed.items) (steps_of k c h.items fault) seen mid after r.handed.adds h.adds);
       }
 
-  reading_more_here : (turn : Turn) (next : Stream) → Steps k taped desk c feeder units now new heard after_heard (Ok turn) mid after next → Reading k desk c limits old new seen after next (may_leave turn)
-  reading_more_here turn next s =
+  reading_more_here : (later : Bool) (next : Stream) → Steps k taped desk c feeder units now new heard after_heard (Ok tt) later mid after next → Reading k desk c limits old new seen after next later
+  reading_more_here later next s =
       let more = hands_more s.piece next.pending None s.goes_on.hands in
       record {
         read = r.read ++ s.piece;
         consumes = consumes_then old now new r.read s.piece r.consumes s.consumes;
         limited = s.goes_on.limited ∙ r.limited;
         handed = record { items = more.items; begins = more.begins; adds = adds_same desk (steps_of k c more.items None) (map (step_of_unit k c) more.items) seen after (append-nil (map (step_of_unit k c) more.items)) more.adds };
-        waits = λ none. subst (λ (l : Limits). Waits l next.pending) r.limited (s.goes_on.waits (emptied turn none));
+        waits = λ none. subst (λ (l : Limits). Waits l next.pending) r.limited (s.goes_on.waits none);
       }
 
-  pub reading_more : (n : ℕ) → n ≡ desk → (turn : Turn) (next : Stream) (left : Bool) → left ≡ may_leave turn → Steps k taped n c feeder units now new heard after_heard (Ok turn) mid after next
-      → Reading k desk c limits old new seen after next left
-  reading_more n same turn next left is stepped =
-      subst (λ (b : Bool). Reading k desk c limits old new seen after next b) (sym is)
-      (reading_more_here turn next (subst (λ (i : ℕ). Steps k taped i c feeder units now new heard after_heard (Ok turn) mid after next) same stepped))
+  pub reading_more : (n : ℕ) → n ≡ desk → (later : Bool) (next : Stream) → Steps k taped n c feeder units now new heard after_heard (Ok tt) later mid after next
+      → Reading k desk c limits old new seen after next later
+  reading_more n same later next stepped = reading_more_here later next (subst (λ (i : ℕ). Steps k taped i c feeder units now new heard after_heard (Ok tt) later mid after next) same stepped)
 
   -- nothing was read any more
   pub reading_ends : (end : SessionEnd) → units ≡ false → Consumes now new [] → (end ≡ ends.Shut → ⊥) → Reads k taped desk c limits old new end seen mid
@@ -283,7 +285,7 @@ module _ (k : Settings) (taped : Bool) (desk c : ℕ) (limits : Limits) (old now
     rest = t.rest;
     fault = t.fault;
     hands = hands_more piece t.rest t.fault t.hands;
-    whole = λ w. absurd (t.broken w);
+    whole = λ w. absurd (broken_unwhole end t.broken w);
     shut = λ is. subst (λ (l : Limits). IsShutBy k taped desk c l t.rest t.fault after) r.limited (t.shut is);
   }
   reading_over_here end (unread none consumes kept unshut same) = subst (λ (l : List Entry). Reads k taped desk c limits old new end seen l) (sym same) (reading_ends end none consumes unshut)

@@ -1,4 +1,4 @@
 mod Gathering
 mod Handing
 pub mod Owning
-mod Talking
+pub mod Talking

@@ -14,7 +14,6 @@ use Rattle.gm_shared.specs.declared.tape.Entry.{Entry}
 use Rattle.gm_shared.specs.Calls.{HandedIn, if_taken, events_of}
 use Rattle.gm_shared.proofs.Sharing.{and_more, events_of_more}
 use Rattle.gm_session.specs.declared.session.SessionEnd.{SessionEnd}
-use Rattle.gm_session.specs.declared.session.Turn.{Turn}
 use Rattle.gm_session.specs.Sessions.{HandsIn, Steps, broke, unread}
 use Rattle.gm_feeder.specs.Streams.{Stream}
 use Rattle.gm_session.specs.Owners.{is_said_by, are_said_by, SaysOwn}
@@ -75,11 +74,11 @@ own_hands k n m c limits bytes rest fault seen after here same hands before =
     ∙ more_own n (reverse steps) seen after hands.adds (said_reverse n steps (subst (λ (i : ℕ). are_said_by i steps ≡ true) here (units_said k c hands.items fault))) before
 
 -- what a session reads in a step is said at its desk
-pub own_steps : (k : Settings) (taped : Bool) (n m c : ℕ) (old : Stream) (units : Bool) (input left heard after_heard : Option (List ℕ)) (outcome : Result Turn SessionEnd) (seen after : List Entry) (new : Stream)
-    → c ≡ n → m ≡ n → Steps k taped n c old units input left heard after_heard outcome seen after new → SaysOwn n seen → SaysOwn m after
-own_steps k taped n m c old units input left heard after_heard (Ok turn) seen after new here same s before =
+pub own_steps : (k : Settings) (taped : Bool) (n m c : ℕ) (old : Stream) (units : Bool) (input left heard after_heard : Option (List ℕ)) (outcome : Result (Unit {0}) SessionEnd) (later : Bool) (seen after : List Entry) (new : Stream)
+    → c ≡ n → m ≡ n → Steps k taped n c old units input left heard after_heard outcome later seen after new → SaysOwn n seen → SaysOwn m after
+own_steps k taped n m c old units input left heard after_heard (Ok done) later seen after new here same s before =
     own_hands k n m c old.limits (old.pending ++ s.piece) new.pending None seen after here same s.goes_on.hands before
-own_steps k taped n m c old units input left heard after_heard (Err end) seen after new here same (broke piece consumes hears b) before =
+own_steps k taped n m c old units input left heard after_heard (Err end) later seen after new here same (broke piece consumes hears b) before =
     own_hands k n m c old.limits (old.pending ++ piece) b.rest b.fault seen after here same b.hands before
-own_steps k taped n m c old units input left heard after_heard (Err end) seen after new here same (unread none consumes kept unshut e) before =
+own_steps k taped n m c old units input left heard after_heard (Err end) later seen after new here same (unread none consumes kept unshut e) before =
     subst (λ (l : List Entry). SaysOwn m l) (sym e) (ap (λ (i : ℕ). are_said_by i (events_of i seen)) same ∙ before)

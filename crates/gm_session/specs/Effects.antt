@@ -4,7 +4,7 @@ use Rattle.gm_conns.specs.Slots.{has}
 use Rattle.gm_lane_word.specs.declared.due.Due.{Due}
 use Rattle.gm_notes.specs.declared.event.ApplyError.{ApplyError}
 use Rattle.gm_notes.specs.declared.states.Mode.{Mode}
-use Rattle.gm_notes.specs.declared.states.Mode.TheVariants.{Running}
+use Rattle.gm_notes.specs.declared.states.Mode.TheVariants.{Running, Graceful, Stopped}
 use Rattle.gm_notes.specs.Settings.{Settings}
 use Rattle.gm_notes.specs.Steps.{Step}
 use Rattle.gm_shared.specs.declared.receipt.Receipt.{Receipt}
@@ -22,27 +22,35 @@ pub record IsNothing (effects : EffectsState) : Type 0 where
   pub touched : (c : ℕ) → has effects.touched c ≡ false
   pub mode : effects.mode ≡ Running
 
--- No touched slot is lost, and this is the server's mode now.
+-- the mode that a server reaches later of two: it doesn't go back
+abbrev pub later : Mode → Mode → Mode
+later Stopped other = Stopped
+later Graceful Stopped = Stopped
+later Graceful other = Graceful
+later Running other = other
+
+-- No touched slot is lost, and this mode isn't either.
 pub record Collects (mode : Mode) (old new : EffectsState) : Type 0 where
   pub slots : KeepsSlots old.touched new.touched
-  pub mode_is : new.mode ≡ mode
+  pub mode_is : new.mode ≡ later old.mode mode
 
 -- what came of an event is kept; where it was refused, nothing came of it
 abbrev pub Kept : Result Receipt ApplyError → EffectsState → EffectsState → Type 0
 Kept (Ok receipt) old new = Collects receipt.mode old new
 Kept (Err refused) old new = new ≡ old
 
--- An event was handed in at the desk, and no slot that it touched, or that was touched before, is lost to the threads that are notified.
+-- An event was handed in at the desk, and no slot that it touched, or that was touched before, is lost to the threads
+-- that are notified.
 pub record Keeps (k : Settings) (taped : Bool) (s : Step) (desk : ℕ) (answer : Result Receipt ApplyError) (before after : List Entry) (old new : EffectsState) : Type 0 where
   pub called : DeskCalled k taped s desk answer new.touched before after
   pub kept : Kept answer old new
 
--- the present second may have been handed in at the control desk, and no slot that was touched is lost
+-- the present second may have been handed in at the control desk, and no slot that was touched and no mode is lost
 abbrev pub Ticks : EffectsState → EffectsState → Type 0
-Ticks old new = KeepsSlots old.touched new.touched
+Ticks old new = (mode : Mode) × Collects mode old new
 
--- What came of each event that the desk handed in meanwhile was added to the effects, one event after another, and perhaps what came of
--- ticks; and nothing was taken out of them.
+-- What came of each event that the desk handed in meanwhile was added to the effects, one event after another, and
+-- perhaps what came of ticks; and nothing was taken out of them.
 pub data Gathers (k : Settings) (taped : Bool) (desk : ℕ) (seen : List Entry) (old : EffectsState) : List Entry → EffectsState → Type 0 where
   nothing : Gathers k taped desk seen old seen old
   event : (s : Step) (receipt : Receipt) (mid after : List Entry) (between new : EffectsState) → Gathers k taped desk seen old mid between

@@ -1,9 +1,12 @@
 -- What a session reads, and what it hands in of that.
-use Rattle.std.specs.Prelude.{◌≡◌, ℕ, Bool, true, false, List, [], ◌∷◌, ◌++◌, reverse, Option, Some, None, IfSome, Result, Ok, Err}
+use Rattle.std.specs.Prelude.{◌≡◌, ◌⊎◌, ℕ, zero, suc, Bool, true, false, List, [], ◌∷◌, ◌++◌, reverse, Option, Some, None, IfSome, Result, Ok, Err}
 use Rattle.std.specs.Io.KnownBytes.{Consumes, Appends, Keeps}
 use Rattle.std.specs.declared.io.ErrorKind.{ErrorKind}
 use Rattle.std.specs.declared.io.ErrorKind.TheVariants.{WouldBlock, Interrupted}
+use Rattle.gm_feeder.specs.declared.source.Answer.{Answer}
+use Rattle.gm_feeder.specs.declared.source.Answer.TheVariants.{Moved, Failed}
 use Rattle.gm_feeder.specs.declared.units.Limits.{Limits}
+use Rattle.gm_feeder.specs.Answers.{Answered, Unasked}
 use Rattle.gm_feeder.specs.Units.{Item, IsUnitThen, Waits}
 use Rattle.gm_feeder.specs.Streams.{Stream, TakesIn, GivesUnit, GivesNone, with_bytes}
 use Rattle.gm_notes.specs.declared.event.UnitFault.{UnitFault}
@@ -16,12 +19,11 @@ use Rattle.gm_shared.specs.declared.tape.Entry.{Entry}
 use Rattle.gm_shared.specs.Calls.{Called, HandedIn}
 use Rattle.gm_session.specs.declared.session.SessionEnd.{SessionEnd}
 use Rattle.gm_session.specs.declared.session.SessionEnd.TheVariants as ends
-use Rattle.gm_session.specs.declared.session.Turn.{Turn}
-use Rattle.gm_session.specs.declared.session.Turn.TheVariants as turns
 use Rattle.gm_session.specs.declared.applier.Taken.{Taken}
 use Rattle.gm_session.specs.declared.applier.Taken.TheVariants.{Unit as AUnit, Nothing}
 
--- what comes of a read that failed so: it gave nothing if it was broken off or would have waited; otherwise the session is over
+-- what comes of a read that failed so: it gave nothing if it was broken off or would have waited; otherwise the session
+-- is over
 abbrev pub failed_read : ErrorKind → Result ℕ SessionEnd
 failed_read Interrupted = Ok 0
 failed_read WouldBlock = Ok 0
@@ -36,7 +38,8 @@ IsPiece input rest heard after old new (Err end) = Consumes input rest [] × Kee
 abbrev pub Adds : ℕ → List Step → List Entry → List Entry → Type 0
 Adds desk steps seen after = HandedIn desk (reverse steps) seen after
 
--- The events that a desk handed in meanwhile are the first units of these bytes, in order, and then the fault behind them, or none.
+-- The events that a desk handed in meanwhile are the first units of these bytes, in order, and then the fault behind
+-- them, or none.
 pub record HandsIn (k : Settings) (desk c : ℕ) (limits : Limits) (bytes rest : List ℕ) (fault : Option UnitFault) (seen after : List Entry) : Type 0 where
   pub items : List Item
   pub begins : BeginsWith limits bytes items rest
@@ -50,6 +53,24 @@ IsWhole ends.ReadFault = Unit {0}
 IsWhole ends.Shut = ⊥
 IsWhole ends.Memory = ⊥
 IsWhole ends.Turns = Unit {0}
+IsWhole ends.Stopped = ⊥
+IsWhole ends.NoThread = ⊥
+
+-- whether all whole units were handed in where a session ended so, and nothing more can be read
+abbrev pub ends_whole : SessionEnd → Bool
+ends_whole ends.Ended = true
+ends_whole ends.ReadFault = true
+ends_whole ends.Shut = false
+ends_whole ends.Memory = false
+ends_whole ends.Turns = true
+ends_whole ends.Stopped = false
+ends_whole ends.NoThread = false
+
+-- a unit couldn't be applied
+abbrev pub IsBroken : SessionEnd → Type 0
+IsBroken ends.Shut = Unit {0}
+IsBroken ends.Memory = Unit {0}
+IsBroken end = ⊥
 
 -- ---- why a session found its slot shut
 
@@ -73,7 +94,7 @@ IsShutBy k taped desk c limits rest None after = (s : Step) × StandsNext k c li
 -- ---- a session
 
 -- What a session read of its input, and what it handed in of that: all units and no fault, where the input is used up,
--- the reader failed or it read as many pieces as it may; then there is no unit at the rest, and no fault. Where it
+-- the reader failed or it read as many pieces as it may; then there is no unit at the rest, and no fault. If it
 -- found its slot shut, why.
 pub record Reads (k : Settings) (taped : Bool) (desk c : ℕ) (limits : Limits) (old new : Option (List ℕ)) (end : SessionEnd) (seen after : List Entry) : Type 0 where
   pub read : List ℕ
@@ -89,26 +110,27 @@ pub record Reads (k : Settings) (taped : Bool) (desk c : ℕ) (limits : Limits) 
 -- an event was applied, or nothing was and the session is over
 abbrev pub Applies : Settings → Bool → ℕ → Step → Result (Unit {0}) SessionEnd → List Entry → List Entry → Type 0
 Applies k taped desk s (Ok done) seen after = Adds desk (s ∷ []) seen after
-Applies k taped desk s (Err end) seen after = Adds desk [] seen after × (IsWhole end → ⊥) × (end ≡ ends.Shut → Refuses k taped s desk after)
+Applies k taped desk s (Err end) seen after = Adds desk [] seen after × IsBroken end × (end ≡ ends.Shut → Refuses k taped s desk after)
 
 -- the fault that comes next was applied, or nothing was, and the session is over
 pub record Stops (k : Settings) (taped : Bool) (desk c : ℕ) (old : Stream) (end : SessionEnd) (seen after : List Entry) : Type 0 where
   pub fault : Option UnitFault
   pub stands : IfSome fault (λ fault. IsFaultAt old.limits old.pending fault)
   pub adds : Adds desk (fault_steps c fault) seen after
-  pub broken : IsWhole end → ⊥
+  pub broken : IsBroken end
   pub shut : end ≡ ends.Shut → IsShutBy k taped desk c old.limits old.pending fault after
 
--- what becomes of the next unit: it was applied; or there is none, and more bytes are waited for; or the session is over
+-- what becomes of the next unit: it was applied; or there is none, and more bytes are waited for; or the session is
+-- over
 abbrev pub TakesNext : Settings → Bool → ℕ → ℕ → Stream → Result Taken SessionEnd → List Entry → List Entry → Stream → Type 0
 TakesNext k taped desk c old (Ok (AUnit is_line)) seen after new = (item : Item) × GivesUnit old item new × Adds desk (step_of_unit k c item ∷ []) seen after
 TakesNext k taped desk c old (Ok Nothing) seen after new = GivesNone old new × (after ≡ seen)
 TakesNext k taped desk c old (Err end) seen after new = Stops k taped desk c old end seen after
 
--- after a turn the session goes on: all whole units were taken, if that is said
-pub record GoesOn (k : Settings) (desk c : ℕ) (limits : Limits) (bytes : List ℕ) (turn : Turn) (seen after : List Entry) (new : Stream) : Type 0 where
+-- after a turn the session goes on: all whole units were taken, unless some may be left
+pub record GoesOn (k : Settings) (desk c : ℕ) (limits : Limits) (bytes : List ℕ) (units : Bool) (seen after : List Entry) (new : Stream) : Type 0 where
   pub hands : HandsIn k desk c limits bytes new.pending None seen after
-  pub waits : turn ≡ turns.Emptied → Waits limits new.pending
+  pub waits : units ≡ false → Waits limits new.pending
   pub limited : new.limits ≡ limits
 
 -- after a turn the session is over
@@ -116,16 +138,16 @@ pub record Breaks (k : Settings) (taped : Bool) (desk c : ℕ) (limits : Limits)
   pub rest : List ℕ
   pub fault : Option UnitFault
   pub hands : HandsIn k desk c limits bytes rest fault seen after
-  pub broken : IsWhole end → ⊥
+  pub broken : IsBroken end
   pub shut : end ≡ ends.Shut → IsShutBy k taped desk c limits rest fault after
 
 -- what becomes of these bytes in a turn
-abbrev pub Takes : Settings → Bool → ℕ → ℕ → Limits → List ℕ → Result Turn SessionEnd → List Entry → List Entry → Stream → Type 0
-Takes k taped desk c limits bytes (Ok turn) seen after new = GoesOn k desk c limits bytes turn seen after new
-Takes k taped desk c limits bytes (Err end) seen after new = Breaks k taped desk c limits bytes end seen after
+abbrev pub Takes : Settings → Bool → ℕ → ℕ → Limits → List ℕ → Result (Unit {0}) SessionEnd → Bool → List Entry → List Entry → Stream → Type 0
+Takes k taped desk c limits bytes (Ok done) units seen after new = GoesOn k desk c limits bytes units seen after new
+Takes k taped desk c limits bytes (Err end) units seen after new = Breaks k taped desk c limits bytes end seen after
 
-abbrev pub Unloads : Settings → Bool → ℕ → ℕ → Stream → Result Turn SessionEnd → List Entry → List Entry → Stream → Type 0
-Unloads k taped desk c old outcome seen after new = Takes k taped desk c old.limits old.pending outcome seen after new
+abbrev pub Unloads : Settings → Bool → ℕ → ℕ → Stream → Result (Unit {0}) SessionEnd → Bool → List Entry → List Entry → Stream → Type 0
+Unloads k taped desk c old outcome units seen after new = Takes k taped desk c old.limits old.pending outcome units seen after new
 
 -- ---- a step: a piece is read, unless whole units may be left, and then there is a turn
 
@@ -141,26 +163,68 @@ abbrev pub Fills : Bool → Option (List ℕ) → Option (List ℕ) → Option (
 Fills units input left heard after_heard old new (Ok done) = Fed input left heard after_heard old new
 Fills units input left heard after_heard old new (Err end) = (units ≡ false) × Consumes input left [] × Keeps heard after_heard × (end ≡ ends.Shut → ⊥)
 
--- A session is over in which these bytes were left, perhaps with whole units: a piece was read, and it broke; or nothing was read where no
--- whole unit was left, and nothing was handed in.
+-- A session is over in which these bytes were left, perhaps with whole units: a piece was read, and it broke; or
+-- nothing was read where no whole unit was left, and nothing was handed in.
 pub data Ends (k : Settings) (taped : Bool) (desk c : ℕ) (old : Stream) (units : Bool) (input left : Option (List ℕ)) (heard after_heard : Option (List ℕ)) (end : SessionEnd)
     (seen after : List Entry) : Type 0 where
   broke : (piece : List ℕ) → Consumes input left piece → Appends heard after_heard piece → Breaks k taped desk c old.limits (old.pending ++ piece) end seen after
       → Ends k taped desk c old units input left heard after_heard end seen after
   unread : units ≡ false → Consumes input left [] → Keeps heard after_heard → (end ≡ ends.Shut → ⊥) → after ≡ seen → Ends k taped desk c old units input left heard after_heard end seen after
 
--- a piece was read and heard, or none, and the session goes on
-pub record Reaches (k : Settings) (desk c : ℕ) (old : Stream) (input left heard after_heard : Option (List ℕ)) (turn : Turn) (seen after : List Entry) (new : Stream) : Type 0 where
+-- a piece was read and heard, or none, and the session goes on, perhaps with whole units
+pub record Reaches (k : Settings) (desk c : ℕ) (old : Stream) (input left heard after_heard : Option (List ℕ)) (units : Bool) (seen after : List Entry) (new : Stream) : Type 0 where
   pub piece : List ℕ
   pub consumes : Consumes input left piece
   pub hears : Appends heard after_heard piece
-  pub goes_on : GoesOn k desk c old.limits (old.pending ++ piece) turn seen after new
+  pub goes_on : GoesOn k desk c old.limits (old.pending ++ piece) units seen after new
 
-abbrev pub Steps : Settings → Bool → ℕ → ℕ → Stream → Bool → Option (List ℕ) → Option (List ℕ) → Option (List ℕ) → Option (List ℕ) → Result Turn SessionEnd → List Entry → List Entry → Stream → Type 0
-Steps k taped desk c old units input left heard after_heard (Ok turn) seen after new = Reaches k desk c old input left heard after_heard turn seen after new
-Steps k taped desk c old units input left heard after_heard (Err end) seen after new = Ends k taped desk c old units input left heard after_heard end seen after
+-- whole units may have been left before the step, and may be after it
+abbrev pub Steps : Settings → Bool → ℕ → ℕ → Stream → Bool → Option (List ℕ) → Option (List ℕ) → Option (List ℕ) → Option (List ℕ) → Result (Unit {0}) SessionEnd → Bool → List Entry → List Entry → Stream → Type 0
+Steps k taped desk c old units input left heard after_heard (Ok done) later seen after new = Reaches k desk c old input left heard after_heard later seen after new
+Steps k taped desk c old units input left heard after_heard (Err end) later seen after new = Ends k taped desk c old units input left heard after_heard end seen after
 
--- whether whole units may be left after a turn
-abbrev pub may_leave : Turn → Bool
-may_leave turns.Emptied = false
-may_leave turns.Cut = true
+-- ---- why: what the source answered, where that is known
+
+-- whether the session is over once its source answered so: it is at its end, or it failed; a read that was broken off
+-- or would have waited is neither
+abbrev pub ends_by : Answer → Option SessionEnd
+ends_by (Moved zero size) = Some ends.Ended
+ends_by (Moved (suc count) size) = None
+ends_by (Failed Interrupted) = None
+ends_by (Failed WouldBlock) = None
+ends_by (Failed kind) = Some ends.ReadFault
+
+-- the source was asked once, and what it answered says that
+abbrev pub AsksOnce : Option (List Answer) → Option (List Answer) → Option SessionEnd → Type 0
+AsksOnce old new says = (answer : Answer) × Answered old new answer × (ends_by answer ≡ says)
+
+-- a piece came; or the session is over because the source said so, or because there was no memory for a piece, and then
+-- the source wasn't asked
+abbrev pub AsksForPiece : Option (List Answer) → Option (List Answer) → Result ℕ SessionEnd → Type 0
+AsksForPiece old new (Ok count) = AsksOnce old new None
+AsksForPiece old new (Err ends.Ended) = AsksOnce old new (Some ends.Ended)
+AsksForPiece old new (Err ends.ReadFault) = AsksOnce old new (Some ends.ReadFault)
+AsksForPiece old new (Err ends.Memory) = Unasked old new
+AsksForPiece old new (Err end) = ⊥
+
+-- no piece is asked for where whole units may be left
+abbrev pub AsksToFill : Bool → Option (List Answer) → Option (List Answer) → Result (Unit {0}) SessionEnd → Type 0
+AsksToFill true old new (Ok done) = Unasked old new
+AsksToFill true old new (Err end) = ⊥
+AsksToFill false old new (Ok done) = AsksOnce old new None
+AsksToFill false old new (Err ends.Ended) = AsksOnce old new (Some ends.Ended)
+AsksToFill false old new (Err ends.ReadFault) = AsksOnce old new (Some ends.ReadFault)
+AsksToFill false old new (Err ends.Memory) = Unasked old new
+AsksToFill false old new (Err end) = ⊥
+
+-- In a step the source is asked once, unless whole units may be left, or there is no memory. Only what it answered says
+-- that it is at its end, or that it failed.
+abbrev pub AsksInStep : Bool → Option (List Answer) → Option (List Answer) → Result (Unit {0}) SessionEnd → Type 0
+AsksInStep true old new (Ok done) = Unasked old new
+AsksInStep true old new (Err end) = Unasked old new × IsBroken end
+AsksInStep false old new (Ok done) = AsksOnce old new None
+AsksInStep false old new (Err ends.Ended) = AsksOnce old new (Some ends.Ended)
+AsksInStep false old new (Err ends.ReadFault) = AsksOnce old new (Some ends.ReadFault)
+AsksInStep false old new (Err ends.Memory) = Unasked old new ⊎ AsksOnce old new None
+AsksInStep false old new (Err ends.Shut) = AsksOnce old new None
+AsksInStep false old new (Err end) = ⊥

@@ -16,8 +16,8 @@ use std::sync::Wait;
 use std::time::Clock;
 
 /// Reads a connection's stream to its end, cuts it into units and applies each at the slot, in order; where no
-/// continuation of what came can be read, it applies that fault and ends. Each unit passes the gate first. The desk is the
-/// slot's. With a tape the desk's share has these events and no others.
+/// continuation of what came can be read, it applies that fault and ends. Each unit passes the gate first. The desk is
+/// the slot's. With a tape the desk's share has these events and no others.
 pub fn read_session<'s, K: BookName, R: Wait + Clock, I: Read, G: Gate>(
     rt: &'s R,
     alloc: Global,

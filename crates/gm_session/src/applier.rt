@@ -7,13 +7,13 @@ ghost use Rattle.gm_notes.specs.Servers.{step_of, IsSized};
 ghost use Rattle.gm_notes.specs.Steps.{Packet, Fault};
 ghost use Rattle.gm_front.specs.Readings.{step_read};
 ghost use Rattle.gm_session.specs.Effects.{Gathers, Ticks};
-ghost use Rattle.gm_session.specs.Sessions.{Applies, TakesNext, Unloads, Steps, Reads, may_leave};
+ghost use Rattle.gm_session.specs.Sessions.{Applies, TakesNext, Unloads, Steps, Reads, AsksInStep};
 
 use crate::batch::Batch;
 use crate::effects::{Effects, hand_in};
 use crate::gate::Gate;
 use crate::host::Host;
-use crate::session::{FIRST_UNITS, Session, SessionEnd, Turn};
+use crate::session::{FIRST_UNITS, Session, SessionEnd};
 use gm_actions::{Action, ReadEvent, Refusal};
 use gm_bytes::{Data, LONG, SharedBytes};
 use gm_feeder::{OwnedPacket, Source};
@@ -57,7 +57,8 @@ pub(crate) enum Taken {
     Nothing,
 }
 
-/// Whether a unit may be the work of many: a text line lists all functions or workers, a grab looks at all functions of its worker.
+/// Whether a unit may be the work of many: a text line lists all functions or workers, a grab looks at all functions of
+/// its worker.
 fn may_be_long(event: &Event<'_>) -> bool {
     match *event {
         Event::Line { .. } => true,
@@ -69,7 +70,8 @@ fn may_be_long(event: &Event<'_>) -> bool {
     }
 }
 
-/// What cuts a connection's bytes into units, and applies each at its desk: past the gate. What comes of them is added to effects.
+/// What cuts a connection's bytes into units, and applies each at its desk: past the gate. What comes of them is added
+/// to effects.
 #[derive(Drop)]
 pub(crate) struct Applier<'s, K: BookName, R, G> {
     pub(crate) around: &'s Around<'s, K, R, G>,
@@ -79,8 +81,8 @@ pub(crate) struct Applier<'s, K: BookName, R, G> {
 }
 
 impl<'s, K: BookName, R: Wait + Clock, G: Gate> Applier<'s, K, R, G> {
-    /// Before a grab it hands in the present second: a job's time limit counts from the last second that was handed in. A packet of no
-    /// request's type is said to operators.
+    /// Before a grab it hands in the present second: a job's time limit counts from the last second that was handed in.
+    /// A packet of no request's type is said to operators.
     fn prepare(&self, read: &ReadEvent<'_>, effects: &mut Effects<K>)
         ensures { Ticks effects.old effects.new }
     {
@@ -97,7 +99,7 @@ impl<'s, K: BookName, R: Wait + Clock, G: Gate> Applier<'s, K, R, G> {
         }
     }
 
-    /// Applies an event, before a grab with the present second. Where it is refused, the session is over.
+    /// Applies an event, before a grab with the present second. If it is refused, the session is over.
     #[inline(always)]
     #[tactic(auto, using(crate::proofs::Gathering::gathers_ticked))]
     fn apply(
@@ -121,7 +123,8 @@ impl<'s, K: BookName, R: Wait + Clock, G: Gate> Applier<'s, K, R, G> {
         }
     }
 
-    /// Applies an event as gearmand's applications mean it. It isn't inlined, as each unit would clear the room for the data.
+    /// Applies an event as gearmand's applications mean it. It isn't inlined, as each unit would clear the room for the
+    /// data.
     #[inline(never)]
     fn apply_meant(
         &self,
@@ -163,7 +166,7 @@ impl<'s, K: BookName, R: Wait + Clock, G: Gate> Applier<'s, K, R, G> {
     }
 
     /// Takes the next unit in the feeder, or the fault there. A long packet is taken with its
-    /// memory, so that its data are shared and not copied. Where the session is over, it says why.
+    /// memory, so that its data are shared and not copied. If the session is over, it says why.
     fn take_unit(
         &self,
         session: &mut Session,
@@ -248,15 +251,16 @@ impl<'s, K: BookName, R: Wait + Clock, G: Gate> Applier<'s, K, R, G> {
         self.apply_unit(desk, index, Event::Packet { slot, kind, bytes }, effects)
     }
 
-    /// A session's turn: takes units, and the fault after them, until there is none, or their batch has ended, and says whether there may
-    /// be more. Where the session is over, it says why.
+    /// A session's turn: takes units, and the fault after them, until there is none, or their batch has ended, so that
+    /// there may be more. If the session is over, it says why.
     fn unload(
         &self,
         session: &mut Session,
         desk: &mut Desk<K>,
         effects: &mut Effects<K>,
-    ) -> Result<Turn, SessionEnd>
-        ensures unloads { Unloads K.settings K.taped desk.old.number self.now.slot session.old.feeder result desk.old.witness.seen desk.new.witness.seen session.new.feeder }
+    ) -> Result<(), SessionEnd>
+        ensures unloads { Unloads K.settings K.taped desk.old.number self.now.slot session.old.feeder result session.new.has_units
+            desk.old.witness.seen desk.new.witness.seen session.new.feeder }
         ensures gathers { Gathers K.settings K.taped desk.old.number desk.old.witness.seen effects.old desk.new.witness.seen effects.new }
         ensures number { desk.new.number ≡ desk.old.number }
     {
@@ -267,16 +271,19 @@ impl<'s, K: BookName, R: Wait + Clock, G: Gate> Applier<'s, K, R, G> {
             let Taken::Unit { may_be_long } = self.take_unit(session, desk, &mut batch, effects)?
             else {
                 session.is_pipelining = batch.units > FIRST_UNITS;
-                return Ok(Turn::Emptied);
+                session.has_units = false;
+                return Ok(());
             };
             if batch.has_ended(self.around.rt, may_be_long) {
                 session.is_pipelining = batch.units > FIRST_UNITS;
-                return Ok(Turn::Cut);
+                session.has_units = true;
+                return Ok(());
             }
         }
     }
 
-    /// Reads a piece, unless the last turn may have left whole units, and then takes its turn. Where the session is over, it says why.
+    /// Reads a piece, unless the last turn may have left whole units, and then takes its turn. If the session is
+    /// over, it says why.
     pub(crate) fn step<E, S: Source<E>>(
         &self,
         session: &mut Session,
@@ -284,19 +291,18 @@ impl<'s, K: BookName, R: Wait + Clock, G: Gate> Applier<'s, K, R, G> {
         source: &mut S,
         by: &E,
         effects: &mut Effects<K>,
-    ) -> Result<Turn, SessionEnd>
+    ) -> Result<(), SessionEnd>
         ensures ended { IfErr result (λ end. end ≡ SessionEnd.Ended → IsAtEnd (S.remaining source.new)) }
         ensures steps { Steps K.settings K.taped desk.old.number self.now.slot session.old.feeder session.old.has_units (S.remaining source.old) (S.remaining source.new)
-            (S.heard source.old) (S.heard source.new) result desk.old.witness.seen desk.new.witness.seen session.new.feeder }
-        ensures units { IfOk result (λ turn. session.new.has_units ≡ may_leave turn) }
+            (S.heard source.old) (S.heard source.new) result session.new.has_units desk.old.witness.seen desk.new.witness.seen session.new.feeder }
+        ensures asks { AsksInStep session.old.has_units (S.answers source.old) (S.answers source.new) result }
+        ensures socket { S.socket source.new ≡ S.socket source.old }
         ensures gathers { Gathers K.settings K.taped desk.old.number desk.old.witness.seen effects.old desk.new.witness.seen effects.new }
         ensures number { desk.new.number ≡ desk.old.number }
     {
         // Modelled in models/jobs.pml and polling.pml.
         session.fill(source, by)?;
-        let turn = self.unload(session, desk, effects)?;
-        session.has_units = turn == Turn::Cut;
-        Ok(turn)
+        self.unload(session, desk, effects)
     }
 
     /// Reads a connection's stream to its end.
@@ -322,7 +328,7 @@ impl<'s, K: BookName, R: Wait + Clock, G: Gate> Applier<'s, K, R, G> {
                 pieces_left -= 1;
             }
             match self.step(session, desk, reader, &(), effects) {
-                Ok(_) => {}
+                Ok(()) => {}
                 Err(end) => return end,
             }
         }

@@ -3,13 +3,13 @@
 ghost use Rattle.std.specs.Prelude.{◌≡◌, ◌⊎◌, ◌+◌, ◌%◌, ◌^◌, ◌<◌, ◌≤◌, true, false, None, IsSome, IsNone};
 
 use crate::host::Host;
-use gm_report::{TURN_TIME_US, has_passed};
 use gm_shared::BookName;
+use gm_time::{TURN_TIME_US, has_passed};
 use std::sync::{MutexGuard, Wait};
 use std::time::{Clock, Duration, Instant};
 
-/// The most bytes of a turn that doesn't wait behind the long turns that wait: several requests. It waits for the batch that
-/// goes on.
+/// The most bytes of a turn that doesn't wait behind the long turns that wait: several requests. It waits for the batch
+/// that goes on.
 const MIDDLE_PIECE: usize = 2_048;
 
 /// The most units of a turn: then other connections have theirs.
@@ -54,8 +54,8 @@ impl<'s> Batch<'s> {
         }
     }
 
-    /// Lets the next unit in. The first that isn't free waits until no other session of the server has such a batch, in a long turn
-    /// behind the other long ones.
+    /// Lets the next unit in. The first that isn't free waits until no other session of the server has such a batch, in
+    /// a long turn behind the other long ones.
     #[inline(always)]
     pub(crate) fn admit<K: BookName>(&mut self, host: Option<&'s Host<K>>, rt: &(impl Wait + Clock))
         ensures free { self.new.free_units ≡ self.old.free_units }

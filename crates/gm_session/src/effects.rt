@@ -6,7 +6,7 @@ ghost use Rattle.gm_actions.specs.ReadEvents.{ReadsEvent};
 ghost use Rattle.gm_notes.specs.Servers.{step_of, IsSized};
 ghost use Rattle.gm_shared.specs.Books.{NeedsNoMemory};
 ghost use Rattle.gm_shared.specs.Calls.{HandedIn, if_taken};
-ghost use Rattle.gm_session.specs.Effects.{IsNothing, Keeps, TakesDue, TakesAt};
+ghost use Rattle.gm_session.specs.Effects.{IsNothing, Keeps, TakesDue, TakesAt, later};
 
 use gm_actions::ReadEvent;
 use gm_conns::SlotSet;
@@ -16,8 +16,8 @@ use gm_shared::{BookName, Desk, Receipt, Shared};
 use std::marker::{Model, PhantomData};
 use std::sync::Wait;
 
-/// What came of some events at the book that `K` names. It can't be dropped: what is due to each touched slot is taken out of it, and
-/// then it is ended. Contracts see the touched slots, which are the book's, and the mode.
+/// What came of some events at the book that `K` names. It can't be dropped: what is due to each touched slot is taken
+/// out of it, and then it is ended. Contracts see the touched slots, which are the book's, and the mode.
 pub struct Effects<K: BookName> {
     // The slots for which there may be something to send.
     touched: SlotSet,
@@ -101,6 +101,20 @@ impl<K: BookName> Effects<K> {
     }
 }
 
+/// The mode that a server reaches later of two: it doesn't go back.
+fn later(mode: Mode, other: Mode) -> Mode
+    ensures { result ≡ later mode other }
+{
+    match mode {
+        Mode::Stopped => Mode::Stopped,
+        Mode::Graceful => match other {
+            Mode::Stopped => Mode::Stopped,
+            Mode::Running | Mode::Graceful => Mode::Graceful,
+        },
+        Mode::Running => other,
+    }
+}
+
 /// Hands in an event at a desk, and adds what came of it.
 #[inline(always)]
 pub(crate) fn hand_in<K: BookName>(
@@ -119,6 +133,6 @@ pub(crate) fn hand_in<K: BookName>(
 {
     // Modelled in models/jobs.pml.
     let receipt = desk.apply_with(rt, shared, read, &mut effects.touched)?;
-    effects.mode = receipt.mode;
+    effects.mode = later(effects.mode, receipt.mode);
     Ok(receipt)
 }

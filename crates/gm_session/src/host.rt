@@ -22,11 +22,11 @@ pub struct Host<K: BookName> {
     begun: Option<Instant>,
     /// The last second since then that was handed in.
     second: AtomicU64,
-    /// Held by one turn with many units at a time. Many units in a row, of several connections at once, would wake and sleep at the book's
-    /// lock at each unit.
+    /// Held by one turn with many units at a time. Many units in a row, of several connections at once, would wake and
+    /// sleep at the book's lock at each unit.
     pub(crate) turn: Mutex<()>,
-    /// Held by one long turn at a time, from before it waits for `turn` on. So at most one thread with a long turn waits for `turn`, beside
-    /// those with shorter ones.
+    /// Held by one long turn at a time, from before it waits for `turn` on. So at most one thread with a long turn
+    /// waits for `turn`, beside those with shorter ones.
     pub(crate) long_turn: Mutex<()>,
     /// What is said while the server runs.
     pub speaker: Arc<Speaker, Global>,
@@ -68,8 +68,8 @@ impl<K: BookName> Host<K> {
         Some(elapsed.as_secs())
     }
 
-    /// Hands in the present second, if it is later than the last that was, and adds what came of it. Where the clock can't be read, there
-    /// is no tick.
+    /// Hands in the present second, if it is later than the last that was, and adds what came of it. If the clock
+    /// can't be read, there is no tick.
     pub fn update<R: Wait + Clock>(&self, rt: &R, shared: &Shared<K>, effects: &mut Effects<K>)
         ensures { Ticks effects.old effects.new }
     {

@@ -1,6 +1,6 @@
-//! What one connection says: its bytes are cut into units, and each is handed in, past a gate, at the desk of its slot. A `Talk` is a slot's
-//! desk with the session of its connection, which threads go on with by turns. What came of its units is added to `Effects`: for
-//! which slots there may be something to send then.
+//! What one connection says: its bytes are cut into units, and each is handed in, past a gate, at the desk of its slot.
+//! A `Talk` is a slot's desk with the session of its connection, which threads go on with by turns. What came of its
+//! units is added to `Effects`: for which slots there may be something to send then.
 #![tactic(auto)]
 
 mod alone;
@@ -18,8 +18,8 @@ pub use alone::read_session;
 pub use applier::Around;
 pub use effects::Effects;
 pub use gate::{Gate, OpenGate};
-pub use heard::{HearingLedger, Left, LoggedSource};
+pub use heard::{Heard, Hearings};
 pub use host::Host;
-pub use own_desk::{Opened, OwnDesk};
-pub use session::{Session, SessionEnd, Turn};
-pub use talk::Talk;
+pub use own_desk::OwnDesk;
+pub use session::{Session, SessionEnd};
+pub use talk::{Reading, Talk, TalkParts};

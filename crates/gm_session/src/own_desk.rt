@@ -14,30 +14,6 @@ use gm_notes::{ApplyError, Event};
 use gm_shared::{BookName, Desk, Receipt, Shared};
 use std::sync::Wait;
 
-/// That a slot was opened. `OwnDesk::open` makes one for each opening, and nothing else does. The halves of one socket are assigned to it, which
-/// uses it up.
-#[derive(Drop)]
-pub struct Opened {
-    pub(crate) slot: u32,
-    pub(crate) opening: u64,
-}
-
-impl Opened {
-    /// The slot.
-    pub fn slot(&self) -> u32
-        ensures { result ≡ self.now.slot }
-    {
-        self.slot
-    }
-
-    /// How often the slot was opened, with this.
-    pub fn opening(&self) -> u64
-        ensures { result ≡ self.now.opening }
-    {
-        self.opening
-    }
-}
-
 /// A desk. What its own slot's connection says is handed in there, and what no slot says: openings and ticks.
 #[derive(Drop)]
 pub struct OwnDesk<K: BookName> {
@@ -62,7 +38,8 @@ impl<K: BookName> OwnDesk<K> {
         self.desk
     }
 
-    /// Hands in an event that is of this desk's slot, or of none: an opening, a tick. What came of it is added to the effects.
+    /// Hands in an event that is of this desk's slot, or of none: an opening, a tick. What came of it is added to the
+    /// effects.
     pub fn apply(
         &mut self,
         rt: &impl Wait,
@@ -82,28 +59,22 @@ impl<K: BookName> OwnDesk<K> {
         hand_in(rt, shared, &mut self.desk, &ReadEvent::new(event), effects)
     }
 
-    /// Opens a slot for a connection from this address, which only a refusal leaves without one. What came of it is added to the
-    /// effects.
+    /// Opens a slot for a connection from this address, which only a refusal leaves without one. What came of it is
+    /// added to the effects.
     pub fn open(
         &mut self,
         rt: &impl Wait,
         shared: &Shared<K>,
         addr: &[u8],
         effects: &mut Effects<K>,
-    ) -> Result<Option<Opened>, ApplyError>
+    ) -> Result<Option<u32>, ApplyError>
         ensures opens { Opens K.settings K.taped self.old.desk.number addr.now result self.old.desk.witness.seen self.new.desk.witness.seen }
         ensures gathers { Gathers K.settings K.taped self.old.desk.number self.old.desk.witness.seen effects.old self.new.desk.witness.seen effects.new }
         ensures number { self.new.desk.number ≡ self.old.desk.number }
     {
         // Modelled in models/shutdown.pml and ticks.pml.
         let receipt = self.apply(rt, shared, Event::Open { addr }, effects)?;
-        match receipt.done.opened {
-            Some(slot) => Ok(Some(Opened {
-                slot,
-                opening: receipt.opening,
-            })),
-            None => Ok(None),
-        }
+        Ok(receipt.done.opened)
     }
 
     /// The number of the desk, which is its slot's; the control desk has the number after the last slot's.

@@ -3,7 +3,7 @@
 ghost use Rattle.std.specs.Prelude.{◌≡◌, ◌^◌, ◌-◌, ◌<◌, ◌≤◌, true, false, [], None, IfErr};
 ghost use Rattle.std.specs.Io.KnownBytes.{IsAtEnd};
 ghost use Rattle.std.specs.IoError.{error_kind};
-ghost use Rattle.gm_session.specs.Sessions.{failed_read, IsPiece, Fills};
+ghost use Rattle.gm_session.specs.Sessions.{failed_read, ends_whole, IsPiece, Fills, AsksForPiece, AsksToFill};
 
 use gm_feeder::{Feeder, Limits, ReadError, Source};
 use std::alloc::Global;
@@ -12,8 +12,8 @@ use std::io::{Error, ErrorKind};
 /// The most bytes of a turn that doesn't wait for others: a few requests without data.
 const SHORT_PIECE: usize = 256;
 
-/// How many units of a longer turn don't wait for others either: a request or two with data. Where a client sends many at a
-/// time, none is free.
+/// How many units of a longer turn don't wait for others either: a request or two with data. If a client sends many
+/// at a time, none is free.
 pub(crate) const FIRST_UNITS: u32 = 2;
 
 /// Why a session ended.
@@ -29,15 +29,23 @@ pub enum SessionEnd {
     Memory,
     /// It read 1,099,511,627,776 pieces.
     Turns,
+    /// All connections are to end.
+    Stopped,
+    /// No thread can serve the connection.
+    NoThread,
 }
 
-/// What a turn left in its session.
-#[derive(Clone, Copy, Debug, PartialEq, Eq)]
-pub enum Turn {
-    /// No whole unit: more bytes are needed.
-    Emptied,
-    /// Perhaps whole units: it had its units, or its time.
-    Cut,
+impl SessionEnd {
+    /// Whether all whole units that were read were handed in, and nothing more can be read.
+    pub fn is_whole(self) -> bool
+        ensures { result ≡ ends_whole self }
+    {
+        match self {
+            SessionEnd::Ended | SessionEnd::ReadFault | SessionEnd::Turns => true,
+            SessionEnd::Shut | SessionEnd::Memory | SessionEnd::Stopped | SessionEnd::NoThread =>
+                false,
+        }
+    }
 }
 
 /// What a session keeps of its connection's bytes while it waits for more, or for its next turn.
@@ -46,7 +54,8 @@ pub struct Session {
     pub(crate) feeder: Feeder,
     /// The next unit's index.
     pub(crate) index: u64,
-    /// Whether the last turn had many units, as the next one then has: where that is long, it waits from its first unit on.
+    /// Whether the last turn had many units, as the next one then has: where that is long, it waits from its first unit
+    /// on.
     pub(crate) is_pipelining: bool,
     /// Whether the last turn may have left whole units.
     pub(crate) has_units: bool,
@@ -83,10 +92,12 @@ impl Session {
 }
 
 impl Session {
-    /// Reads a piece, unless whole units may be left. Where the session is over, it says why.
+    /// Reads a piece, unless whole units may be left. If the session is over, it says why.
     pub(crate) fn fill<E, S: Source<E>>(&mut self, source: &mut S, by: &E) -> Result<(), SessionEnd>
         ensures fills { Fills self.old.has_units (S.remaining source.old) (S.remaining source.new) (S.heard source.old) (S.heard source.new) self.old.feeder self.new.feeder result }
         ensures ended { IfErr result (λ end. end ≡ SessionEnd.Ended → IsAtEnd (S.remaining source.new)) }
+        ensures asks { AsksToFill self.old.has_units (S.answers source.old) (S.answers source.new) result }
+        ensures socket { S.socket source.new ≡ S.socket source.old }
         ensures units { self.new.has_units ≡ self.old.has_units }
     {
         // Modelled in models/polling.pml.
@@ -98,7 +109,8 @@ impl Session {
     }
 }
 
-/// What comes of a read that failed: it gave nothing if it was broken off or would have waited; otherwise the session is over.
+/// What comes of a read that failed: it gave nothing if it was broken off or would have waited; otherwise the session
+/// is over.
 fn failed_read(error: &Error) -> Result<usize, SessionEnd>
     ensures { result ≡ failed_read (error_kind error.now) }
 {
@@ -117,6 +129,8 @@ fn read_piece<E, S: Source<E>>(
 ) -> Result<usize, SessionEnd>
     ensures piece { IsPiece (S.remaining source.old) (S.remaining source.new) (S.heard source.old) (S.heard source.new) feeder.old feeder.new result }
     ensures ended { IfErr result (λ end. end ≡ SessionEnd.Ended → IsAtEnd (S.remaining source.new)) }
+    ensures asks { AsksForPiece (S.answers source.old) (S.answers source.new) result }
+    ensures socket { S.socket source.new ≡ S.socket source.old }
 {
     // Modelled in models/polling.pml.
     match feeder.read_from(source, by) {

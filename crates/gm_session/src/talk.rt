@@ -1,76 +1,76 @@
 //! A desk, with the session of its slot's connection.
 
-ghost use Rattle.std.specs.Prelude.{◌≡◌, ◌++◌, ℕ, List, [], Some, None, true, false, IfOk, IfErr, OnOk, OnErr, MatchBool};
+ghost use Rattle.std.specs.Prelude.{◌≡◌, ℕ, ℤ, List, [], Option, Some, None, true, false, length, IfOk, IfErr};
+ghost use Rattle.std.specs.Option.{option_map};
 ghost use Rattle.std.specs.Result.{IsErrOf};
-ghost use Rattle.std.specs.Io.KnownBytes.{IsAtEnd};
+ghost use Rattle.std.specs.Net.Tcp.{stream_raw_fd};
+ghost use Rattle.gm_feeder.specs.Answers.{answer_of};
 ghost use Rattle.gm_notes.specs.Steps.{Close};
 ghost use Rattle.gm_shared.specs.Books.{NeedsNoMemory};
-ghost use Rattle.gm_shared.specs.Calls.{Called};
 ghost use Rattle.gm_session.specs.Effects.{Keeps, Gathers};
 ghost use Rattle.gm_session.specs.Hearings.{blank};
-ghost use Rattle.gm_session.specs.Sessions.{Steps, may_leave};
-ghost use Rattle.gm_session.specs.Talks.{IsTalk, IsNext, begun, without_reading, session_ended, is_reading, over_after, whole_by, IsLeft, StepsOn, Discards, Closes};
+ghost use Rattle.gm_session.specs.Sessions.{Steps, AsksInStep, ends_whole};
+ghost use Rattle.gm_session.specs.Talks.{IsTalk, Lends, IsHanded, talking_of, begun, is_reading, has_ended, is_dropping, is_over, IsOverAs, ended_by, cut_by, over_by, with_reading, has_timed_out_in, left_in, without_last, reading_after, StepsOn, Discards, hearings_with, Closes};
 
 use crate::applier::{Applier, Around};
 use crate::effects::Effects;
 use crate::gate::Gate;
-use crate::heard::{HearingLedger, Left, LoggedSource};
+use crate::heard::Hearings;
 use crate::own_desk::OwnDesk;
-use crate::session::{Session, SessionEnd, Turn};
+use crate::session::{Session, SessionEnd};
 use gm_feeder::{Limits, Patience, Source};
+use gm_ghost::Ghost;
 use gm_notes::{ApplyError, Event};
-use gm_shared::{BookName, Desk, Receipt, Shared};
+use gm_shared::{BookName, Desk, PairSide, Receipt, Shared};
+use gm_socket::{Left, LoggedSource, ReadHalf};
 use std::alloc::{AllocError, Global};
+use std::collections::LinkedList;
 use std::io;
-use std::marker::Model;
+use std::marker::{Brand, Model};
 use std::net::SocketAddr;
 use std::sync::Wait;
 use std::time::Clock;
 
+/// How far the reading of a connection is.
+#[derive(Clone, Copy, Debug, PartialEq, Eq)]
+pub enum Reading {
+    /// Its session goes on.
+    Goes,
+    /// Its session is over, for this reason. What still comes is read and dropped.
+    Drops { end: SessionEnd },
+    /// Its session is over, and nothing is read any more.
+    Ended { end: SessionEnd },
+}
+
 /// A connection that is read, until its slot is closed.
 #[derive(Drop)]
-struct Talking<I: Source<Patience>> {
+struct Talking {
     session: Session,
-    source: LoggedSource<I>,
-    /// The slot and opening that its socket was assigned to.
-    of: (u32, u64),
+    source: LoggedSource<ReadHalf>,
     /// The connection's peer, for operators.
     peer: Option<SocketAddr>,
-    /// Once the session is over, whether all whole units that were read were handed in. What still comes is dropped then.
-    over: Option<bool>,
-    /// Nothing is read any more.
-    has_ended: bool,
+    reading: Reading,
 }
 
-impl<I: Source<Patience>> Talking<I> {
-    /// Whether all whole units that were read were handed in.
-    fn is_whole(&self) -> bool
-        ensures { result ≡ whole_by self.now.over self.now.session.has_units }
-    {
-        match self.over {
-            Some(is_whole) => is_whole,
-            None => !self.session.has_units,
-        }
-    }
-}
-
-/// A slot's desk, and the session of its connection, if there is one. Whichever threads go on with the session: what was handed in since
-/// the slot was last closed are the first units of what was read since, and so it was with each connection before. Contracts see how often
-/// the slot was closed, what the desk has seen of the history, what is left of the session's bytes, all that was read from the connection, and the account of those
-/// that are gone.
+/// A slot's desk, and the session of its connection, if there is one. Whichever threads go on with the session: what
+/// was handed in since the slot was last closed are the first units of what was read since, and so it was with each
+/// connection before. Contracts see how often the slot was closed, what the desk has seen of the history, what is left
+/// of the session's bytes, all that was read from the connection, and the account of those that are gone.
 #[derive(Drop)]
-pub struct Talk<K: BookName, I: Source<Patience>> {
+pub struct Talk<K: BookName> {
     desk: OwnDesk<K>,
     limits: Limits,
-    talking: Option<Talking<I>>,
+    /// What knows the sockets of the slot's connections. It is lent while a connection is about to come.
+    side: Option<PairSide<K>>,
+    talking: Option<Talking>,
     /// How often the slot was closed; at the greatest `u64` it stays there.
     closings: u64,
-    ledger: HearingLedger,
+    ledger: Ghost<Hearings>,
 }
 
-impl<K: BookName, I: Source<Patience>> Model for Talk<K, I> {
+impl<K: BookName> Model for Talk<K> {
     ghost use Rattle.std.specs.Option.{option_map};
-    ghost use Rattle.gm_session.specs.Talks.{TalkState, IsTalk};
+    ghost use Rattle.gm_session.specs.Talks.{TalkState, IsTalk, talking_of};
 
     ghost Value = { TalkState };
 
@@ -80,7 +80,8 @@ impl<K: BookName, I: Source<Patience>> Model for Talk<K, I> {
       closings = t.closings;
       seen = t.desk.desk.witness.seen;
       hearings = t.ledger;
-      talking = option_map (λ x. record { of = x.of; stream = x.session.feeder; has_units = x.session.has_units; over = x.over; heard = x.source.2; has_ended = x.has_ended }) t.talking;
+      side = t.side;
+      talking = option_map talking_of t.talking;
     } };
 
     ghost invariant = { λ t. IsTalk K.settings (record {
@@ -89,36 +90,77 @@ impl<K: BookName, I: Source<Patience>> Model for Talk<K, I> {
       closings = t.closings;
       seen = t.desk.desk.witness.seen;
       hearings = t.ledger;
-      talking = option_map (λ x. record { of = x.of; stream = x.session.feeder; has_units = x.session.has_units; over = x.over; heard = x.source.2; has_ended = x.has_ended }) t.talking;
+      side = t.side;
+      talking = option_map talking_of t.talking;
     }) };
 }
 
-/// Whether a session is over after a turn, and then whether all whole units were handed in.
-fn over_after(outcome: &Result<Turn, SessionEnd>) -> Option<bool>
-    ensures { result ≡ over_after outcome.now }
+/// A slot's desk, the limits of its connections' units, what knows their sockets, unless that is lent, and the account
+/// of what was read from them.
+#[derive(Drop)]
+pub struct TalkParts<K: BookName> {
+    pub desk: OwnDesk<K>,
+    pub limits: Limits,
+    pub side: Option<PairSide<K>>,
+    pub ledger: Ghost<Hearings>,
+}
+
+/// How far a connection's reading is once its session is over: where all whole units were handed in, nothing more can
+/// be read.
+fn over_by(end: SessionEnd) -> Reading
+    ensures { result ≡ over_by end }
+{
+    if end.is_whole() {
+        Reading::Ended { end }
+    } else {
+        Reading::Drops { end }
+    }
+}
+
+/// How far it is once nothing is read any more of a session that is over.
+fn ended_by(reading: Reading) -> Reading
+    ensures { result ≡ ended_by reading }
+{
+    match reading {
+        Reading::Drops { end } => Reading::Ended { end },
+        Reading::Goes | Reading::Ended { .. } => reading,
+    }
+}
+
+/// How far it is once its session is cut for this reason.
+fn cut_by(end: SessionEnd, reading: Reading) -> Reading
+    ensures { result ≡ cut_by end reading }
+{
+    match reading {
+        Reading::Goes => Reading::Drops { end },
+        Reading::Drops { .. } | Reading::Ended { .. } => reading,
+    }
+}
+
+/// How far a connection's reading is after a turn.
+fn reading_after(outcome: &Result<(), SessionEnd>) -> Reading
+    ensures { result ≡ reading_after outcome.now }
 {
     match outcome {
-        Ok(_) => None,
-        Err(SessionEnd::Ended | SessionEnd::ReadFault | SessionEnd::Turns) => Some(true),
-        Err(SessionEnd::Shut | SessionEnd::Memory) => Some(false),
+        Ok(()) => Reading::Goes,
+        Err(end) => over_by(*end),
     }
 }
 
 /// Goes on with a session at its desk.
-fn step_on<K: BookName, R: Wait + Clock, G: Gate, I: Source<Patience>>(
+fn step_on<K: BookName, R: Wait + Clock, G: Gate>(
     desk: &mut OwnDesk<K>,
-    talking: &mut Talking<I>,
+    talking: &mut Talking,
     around: &Around<'_, K, R, G>,
     by: &Patience,
     effects: &mut Effects<K>,
-) -> Result<Turn, SessionEnd>
-    ensures steps { Steps K.settings K.taped desk.old.desk.number desk.old.desk.number talking.old.session.feeder talking.old.session.has_units
-        (I.remaining talking.old.source.0) (I.remaining talking.new.source.0) (Some talking.old.source.2) (Some talking.new.source.2) result
-        desk.old.desk.witness.seen desk.new.desk.witness.seen talking.new.session.feeder }
-    ensures units { IfOk result (λ turn. talking.new.session.has_units ≡ may_leave turn) }
-    ensures over { talking.new.over ≡ over_after result }
-    ensures ended { talking.new.has_ended ≡ talking.old.has_ended }
-    ensures of { talking.new.of ≡ talking.old.of }
+) -> Result<(), SessionEnd>
+    ensures steps { (input : Option (List ℕ)) × (left : Option (List ℕ)) × Steps K.settings K.taped desk.old.desk.number desk.old.desk.number
+        talking.old.session.feeder talking.old.session.has_units input left (Some talking.old.source.bytes) (Some talking.new.source.bytes) result
+        talking.new.session.has_units desk.old.desk.witness.seen desk.new.desk.witness.seen talking.new.session.feeder }
+    ensures asks { AsksInStep talking.old.session.has_units (Some talking.old.source.answers) (Some talking.new.source.answers) result }
+    ensures reading { talking.new.reading ≡ reading_after result }
+    ensures socket { stream_raw_fd talking.new.source.source.stream.value ≡ stream_raw_fd talking.old.source.source.stream.value }
     ensures gathers { Gathers K.settings K.taped desk.old.desk.number desk.old.desk.witness.seen effects.old desk.new.desk.witness.seen effects.new }
     ensures number { desk.new.desk.number ≡ desk.old.desk.number }
 {
@@ -134,41 +176,38 @@ fn step_on<K: BookName, R: Wait + Clock, G: Gate, I: Source<Patience>>(
         by,
         effects,
     );
-    talking.over = over_after(&outcome);
+    talking.reading = reading_after(&outcome);
     outcome
 }
 
-/// Ends a session, and reads what comes after it.
-fn discard_on<I: Source<Patience>>(
-    talking: &mut Talking<I>,
-    by: &Patience,
-    room: &mut [u8],
-) -> io::Result<usize>
-    ensures over { talking.new.over ≡ Some false }
-    ensures heard { (piece : List ℕ) × (talking.new.source.2 ≡ talking.old.source.2 ++ piece) }
-    ensures session { talking.new.session ≡ talking.old.session }
-    ensures ended { talking.new.has_ended ≡ talking.old.has_ended }
-    ensures of { talking.new.of ≡ talking.old.of }
+/// Enters the connection that was closed at this desk, or one that nobody served.
+fn enter<K: BookName>(ledger: &mut Ghost<Hearings>, desk: &Desk<K>, talking: &Option<Talking>)
+    ensures { ledger.new ≡ hearings_with desk.now.witness.seen (option_map talking_of talking.now) ledger.old }
 {
-    talking.over = Some(false);
-    match talking.source.read_by(by, room) {
-        Ok(count) => Ok(count),
-        Err(error) => Err(error),
-    }
+    ledger.update::<(&Desk<K>, &Option<Talking>), Brand>(&(desk, talking));
 }
 
-impl<K: BookName, I: Source<Patience> + Drop> Talk<K, I> {
+impl<K: BookName> Talk<K> {
     /// A desk that has seen nothing, and no connection. Its connections' units are within these limits.
-    pub fn new(alloc: Global, desk: Desk<K>, limits: Limits) -> Result<Talk<K, I>, AllocError>
-        requires { desk.witness.seen ≡ [] }
-        ensures number { IfOk result (λ talk. talk.number ≡ desk.number) }
-        ensures blank { IfOk result (λ talk. (talk.closings ≡ 0) × (talk.seen ≡ []) × (talk.talking ≡ None) × (talk.hearings ≡ blank)) }
-        ensures limits { IfOk result (λ talk. talk.limits ≡ limits) }
+    pub fn new(
+        alloc: Global,
+        desk: Desk<K>,
+        side: PairSide<K>,
+        limits: Limits,
+    ) -> Result<Talk<K>, AllocError>
+        requires desk { desk.witness.seen ≡ [] }
+        requires side { side.passed ≡ [] }
+        ensures { IfOk result (λ talk. talk ≡ record { number = desk.number; limits = limits; closings = 0; seen = []; hearings = blank; side = Some side; talking = None }) }
     {
-        let ledger = HearingLedger::new(alloc)?;
+        let none = Hearings {
+            past: LinkedList::new(alloc),
+            since: LinkedList::new(alloc),
+        };
+        let ledger = Ghost::new(alloc, &none)?;
         Ok(Talk {
             desk: OwnDesk::new(desk),
             limits,
+            side: Some(side),
             talking: None,
             closings: 0,
             ledger,
@@ -182,43 +221,37 @@ impl<K: BookName, I: Source<Patience> + Drop> Talk<K, I> {
         self.desk.number()
     }
 
-    /// Takes a connection, of which nothing was read yet. It says whether it could: not before the slot was closed after the last one, and only if the
-    /// connection was assigned to the slot's next opening, which a count of 64 bits can tell.
+    /// Lends what knows the sockets of the slot's connections, for one that is about to come: `begin` or `refuse` takes
+    /// it back. There is none while a connection is there, or where it is lent already.
+    pub fn lend_side(&mut self) -> Option<PairSide<K>>
+        ensures { Lends result self.old self.new }
+    {
+        match &self.talking {
+            Some(_) => None,
+            None => self.side.take(),
+        }
+    }
+
+    /// Takes a connection, of which nothing was read yet, and whose socket was handed to the side that was lent.
     pub fn begin(
         &mut self,
         alloc: Global,
-        source: LoggedSource<I>,
+        side: PairSide<K>,
+        source: LoggedSource<ReadHalf>,
         peer: Option<SocketAddr>,
-    ) -> bool
-        requires { source.2 ≡ [] }
-        ensures { MatchBool result (IsNext self.old source.3 × (self.new ≡ begun self.old)) ((IsNext self.old source.3 → ⊥) × (self.new ≡ self.old)) }
+    )
+        requires handed { IsHanded self.old side (stream_raw_fd source.source.stream.value) true }
+        requires unread { source.bytes ≡ [] }
+        ensures { self.new ≡ begun self.old side (stream_raw_fd source.source.stream.value) source.answers source.last }
     {
         // Modelled in models/serving.h.
-        if !self.is_next(source.of()) {
-            return false;
-        }
+        self.side = Some(side);
         self.talking = Some(Talking {
             session: Session::new(alloc, self.limits),
             source,
-            of: (self.number(), self.closings + 1),
             peer,
-            over: None,
-            has_ended: false,
+            reading: Reading::Goes,
         });
-        true
-    }
-
-    /// Whether a connection may come that was assigned to this slot and opening.
-    fn is_next(&self, of: Option<(u32, u64)>) -> bool
-        ensures { MatchBool result (IsNext self.now of) (IsNext self.now of → ⊥) }
-    {
-        if self.talking.is_some() || self.closings == u64::MAX {
-            return false;
-        }
-        match of {
-            Some((slot, opening)) => slot == self.number() && opening == self.closings + 1,
-            None => false,
-        }
     }
 
     /// Whether there is a connection from which more may be read.
@@ -227,32 +260,64 @@ impl<K: BookName, I: Source<Patience> + Drop> Talk<K, I> {
     {
         // Modelled in models/serving.h.
         match &self.talking {
-            Some(talking) => !talking.has_ended,
+            Some(talking) => match talking.reading {
+                Reading::Goes => true,
+                Reading::Drops { .. } => true,
+                Reading::Ended { .. } => false,
+            },
+            None => false,
+        }
+    }
+
+    /// Whether there is a connection from which nothing is read any more.
+    pub fn has_ended(&self) -> bool
+        ensures { result ≡ has_ended self.now.talking }
+    {
+        // Modelled in models/serving.h.
+        match &self.talking {
+            Some(_) => !self.is_reading(),
             None => false,
         }
     }
 
     /// Nothing is read any more from the connection, whose session is over.
     pub fn stop_reading(&mut self)
-        requires { session_ended self.old.talking ≡ true }
-        ensures { self.new ≡ without_reading self.old }
+        requires { is_over self.old.talking ≡ true }
+        ensures stopped { self.new ≡ record self.old { talking = with_reading ended_by self.old.talking } }
+        ensures ended { has_ended self.new.talking ≡ true }
     {
         // Modelled in models/serving.h.
         match &mut self.talking {
-            Some(talking) => talking.has_ended = true,
+            Some(talking) => talking.reading = ended_by(talking.reading),
             None => {}
         }
     }
 
-    /// What is left to be read, after a step that didn't wait: also where it didn't read, there may be more, since what came meanwhile isn't
-    /// reported again.
+    /// The connection's session is over for this reason, whatever of it is left, unless it was over already.
+    pub fn cut(&mut self, end: SessionEnd)
+        requires { ends_whole end ≡ false }
+        ensures cut { self.new ≡ record self.old { talking = with_reading (cut_by end) self.old.talking } }
+        ensures dropping { is_reading self.old.talking ≡ true → is_dropping self.new.talking ≡ true }
+    {
+        // Modelled in models/serving.h.
+        match &mut self.talking {
+            Some(talking) => talking.reading = cut_by(end, talking.reading),
+            None => {}
+        }
+    }
+
+    /// Takes what is left to be read, after a step that didn't wait: also where it didn't read, there may be more,
+    /// since what came meanwhile isn't reported again.
     pub fn take_left(&mut self) -> Left
-        ensures left { IsLeft self.old.talking result }
-        ensures same { self.new ≡ self.old }
+        ensures left { result ≡ left_in self.old.talking }
+        ensures taken { self.new ≡ record self.old { talking = without_last self.old.talking } }
     {
         // Modelled in models/polling.pml.
+        if !self.is_reading() {
+            return Left::Nothing;
+        }
         match &mut self.talking {
-            Some(talking) if !talking.has_ended => {
+            Some(talking) => {
                 let left = talking.source.take_left();
                 if talking.session.has_units {
                     Left::Perhaps
@@ -260,62 +325,64 @@ impl<K: BookName, I: Source<Patience> + Drop> Talk<K, I> {
                     left
                 }
             }
-            _ => Left::Nothing,
+            None => Left::Nothing,
         }
     }
 
     /// Whether the last read failed, as the system found out that the peer vanished.
-    pub fn has_timed_out(&self) -> bool {
+    pub fn has_timed_out(&self) -> bool
+        ensures { result ≡ has_timed_out_in self.now.talking }
+    {
         match &self.talking {
             Some(talking) => talking.source.has_timed_out(),
             None => false,
         }
     }
 
-    /// Goes on with the session: reads a piece, unless whole units may be left, and takes a turn. What came of its units is added to the
-    /// effects. Where the session is over, it says why.
+    /// Goes on with the session: reads a piece, unless whole units may be left, and takes a turn. What came of its
+    /// units is added to the effects. If the session is over, it says why: `Shut` where there is none that goes on.
     pub fn step<R: Wait + Clock, G: Gate>(
         &mut self,
         around: &Around<'_, K, R, G>,
         by: &Patience,
         effects: &mut Effects<K>,
-    ) -> Result<Turn, SessionEnd>
+    ) -> Result<(), SessionEnd>
         ensures steps { StepsOn self.old.talking K.settings K.taped result self.old self.new }
-        ensures over { OnErr result (session_ended self.new.talking ≡ true) }
+        ensures over { is_reading self.old.talking ≡ true → IfErr result (λ end. IsOverAs (ends_whole end) self.new.talking) }
         ensures gathers { Gathers K.settings K.taped self.old.number self.old.seen effects.old self.new.seen effects.new }
     {
         // Modelled in models/polling.pml.
         match &mut self.talking {
-            Some(talking) if talking.over.is_none() => step_on(
-                &mut self.desk,
-                talking,
-                around,
-                by,
-                effects,
-            ),
-            _ => Err(SessionEnd::Shut),
+            Some(talking) => match talking.reading {
+                Reading::Goes => step_on(&mut self.desk, talking, around, by, effects),
+                Reading::Drops { .. } => Err(SessionEnd::Shut),
+                Reading::Ended { .. } => Err(SessionEnd::Shut),
+            },
+            None => Err(SessionEnd::Shut),
         }
     }
 
     /// Reads once after the session is over, into this room, and drops the bytes. It says how many there were.
     pub fn discard(&mut self, by: &Patience, room: &mut [u8]) -> io::Result<usize>
-        ensures discards { Discards self.old.talking self.old self.new }
-        ensures over { session_ended self.new.talking ≡ true }
+        requires { is_dropping self.old.talking ≡ true }
+        ensures { Discards self.old.talking (answer_of result (length room.new)) self.old self.new }
     {
         match &mut self.talking {
-            Some(talking) => discard_on(talking, by, room),
-            None => Ok(0),
+            Some(talking) => talking.source.read_by(by, room),
+            None => unreachable!(),
         }
     }
 
-    /// Closes the slot, whose connection is gone. With a tape there may be no memory for that: then the slot stays open in the book.
+    /// Closes the slot, whose connection is gone, and from which nothing is read any more. With a tape there may be no
+    /// memory for that: then the slot stays open in the book.
     pub fn close(
         &mut self,
         rt: &impl Wait,
         shared: &Shared<K>,
         effects: &mut Effects<K>,
     ) -> Result<Receipt, ApplyError>
-        ensures closes { Closes K.settings K.taped result self.old self.new }
+        requires { has_ended self.old.talking ≡ true }
+        ensures closes { Closes K.settings K.taped result self.old self.old.side self.new }
         ensures keeps { Keeps K.settings K.taped (Close self.old.number) self.old.number result self.old.seen self.new.seen effects.old effects.new }
         ensures memory { NeedsNoMemory K.taped (Close self.old.number) → IsErrOf result ApplyError.Memory → ⊥ }
     {
@@ -324,31 +391,57 @@ impl<K: BookName, I: Source<Patience> + Drop> Talk<K, I> {
         let answer = self.desk.apply(rt, shared, Event::Close { slot }, effects);
         if answer.is_ok() {
             self.closings = self.closings.saturating_add(1);
-            match self.talking.take() {
-                Some(talking) => {
-                    let is_whole = talking.is_whole();
-                    self.ledger
-                        .close(&self.desk.desk, talking.of, &talking.source, is_whole);
-                }
-                None => self.ledger.close_unheard(&self.desk.desk),
-            }
+            enter(&mut self.ledger, &self.desk.desk, &self.talking);
+            self.talking = None;
         }
         answer
     }
 
-    /// The desk, the limits of its connections' units, and the account of what was read from them.
-    pub fn into_parts(self) -> (OwnDesk<K>, Limits, HearingLedger)
-        ensures desk { (result.0.desk.number ≡ self.number) × (result.0.desk.witness.seen ≡ self.seen) }
-        ensures limits { result.1 ≡ self.limits }
-        ensures hearings { result.2 ≡ self.hearings }
+    /// Closes the slot of a connection that nobody serves, whose socket was handed to the side that was lent. With a
+    /// tape there may be no memory for that: then the slot stays open in the book, and the side stays lent.
+    pub fn refuse(
+        &mut self,
+        rt: &impl Wait,
+        shared: &Shared<K>,
+        side: PairSide<K>,
+        effects: &mut Effects<K>,
+    ) -> Result<Receipt, ApplyError>
+        requires { (socket : ℤ) × IsHanded self.old side socket false }
+        ensures closes { Closes K.settings K.taped result self.old (Some side) self.new }
+        ensures keeps { Keeps K.settings K.taped (Close self.old.number) self.old.number result self.old.seen self.new.seen effects.old effects.new }
+        ensures memory { NeedsNoMemory K.taped (Close self.old.number) → IsErrOf result ApplyError.Memory → ⊥ }
+    {
+        // Modelled in models/serving.h.
+        let slot = self.desk.number();
+        let answer = self.desk.apply(rt, shared, Event::Close { slot }, effects);
+        if answer.is_ok() {
+            self.closings = self.closings.saturating_add(1);
+            enter(&mut self.ledger, &self.desk.desk, &self.talking);
+            self.side = Some(side);
+        }
+        answer
+    }
+
+    /// What the slot was given, and the account of what was read from its connections.
+    pub fn into_parts(self) -> TalkParts<K>
+        ensures desk { (result.desk.desk.number ≡ self.number) × (result.desk.desk.witness.seen ≡ self.seen) }
+        ensures limits { result.limits ≡ self.limits }
+        ensures side { result.side ≡ self.side }
+        ensures hearings { result.ledger ≡ self.hearings }
         ensures talk { IsTalk K.settings self }
     {
         let Talk {
             desk,
             limits,
+            side,
             ledger,
             ..
         } = self;
-        (desk, limits, ledger)
+        TalkParts {
+            desk,
+            limits,
+            side,
+            ledger,
+        }
     }
 }

@@ -28,7 +28,7 @@ use Rattle.gm_shared.specs.Histories.{Knows, AreOf, AreBelow}
 use Rattle.gm_shared.specs.Calls.{added, drained_entries, Calls, asks, lacks, Gives}
 use Rattle.gm_shared.specs.Shared.{IsBlank, IsGuarded, actor_count}
 use Rattle.gm_shared.specs.Openings.{count_at, Counts}
-use Rattle.gm_shared.proofs.Opening.{Opened, held_counts, told_is, drained_counts, none_opened}
+use Rattle.gm_shared.proofs.Opening.{Opened, held_counts, drained_counts, none_opened}
 use Rattle.gm_shared.proofs.Shares.{share_grows}
 use Rattle.gm_shared.proofs.Taping.{longer, noop_tape, event_tape}
 
@@ -169,9 +169,9 @@ module _ (k : Settings) (e : Event) (desk : ℕ) (noop : Noop) (touched : List �
         (actors.Desk desk) seen (own_added desk (step_of e) result noop) knows
 
   -- and is this of the history
-  pub held_calls : (taped : Bool) → old.tape.on ≡ taped → old.tape.entries.items ≡ (if taped then reverse log else []) → Counts k.slots old.openings log → (result : Result Receipt ApplyError)
-      → Opened result old.openings new.openings → Held k (steps_of log) (step_of e) desk noop result touched old new told → Calls k taped (step_of e) desk noop result touched log (added desk (step_of e) result noop ++ log)
-  held_calls taped on recorded counts (Ok receipt) opened (asked h) =
+  pub held_calls : (taped : Bool) → old.tape.on ≡ taped → old.tape.entries.items ≡ (if taped then reverse log else []) → (result : Result Receipt ApplyError)
+      → Held k (steps_of log) (step_of e) desk noop result touched old new told → Calls k taped (step_of e) desk noop result touched log (added desk (step_of e) result noop ++ log)
+  held_calls taped on recorded (Ok receipt) (asked h) =
       let first = noop_log k (step_of e) desk noop log h.found legal in
       let all = event_log receipt h.found h.event.taken h.event.done_is in
       asks (record {
@@ -183,18 +183,16 @@ module _ (k : Settings) (e : Event) (desk : ℕ) (noop : Noop) (touched : List �
           mode_is = subst (λ steps. receipt.mode ≡ mode (run k steps).notes) all.0 h.event.mode_is;
           touches = subst (λ steps. AreTouched k (steps_of log) steps touched) all.0 h.event.touches;
           at_is = h.place ∙ place_is taped log (noop_entries desk noop) old.tape on recorded;
-          opening_is = opened.1 ∙ told_is k.slots new.openings (added desk (step_of e) (Ok receipt) noop ++ log)
-              (held_counts k (step_of e) desk noop (Ok receipt) touched old new told log (asked h) opened counts) receipt.done.opened;
         };
       })
-  held_calls taped on recorded counts (Err refused) opened (asked h) =
+  held_calls taped on recorded (Err refused) (asked h) =
       asks (record {
         found = h.found;
         after_is = refl;
         answers = subst (λ steps. IsRefusal refused (refusal k (step_of e) (run k steps))) (noop_log k (step_of e) desk noop log h.found legal).0 h.event.0;
       })
-  held_calls taped on recorded counts (Ok receipt) opened (unasked is h) = let bad : Ok receipt ≡ Err _ = h.wanting in absurd cc
-  held_calls taped on recorded counts (Err refused) opened (unasked is h) =
+  held_calls taped on recorded (Ok receipt) (unasked is h) = let bad : Ok receipt ≡ Err _ = h.wanting in absurd cc
+  held_calls taped on recorded (Err refused) (unasked is h) =
       lacks (record { on = sym on ∙ h.on; none = is; result_is = h.wanting; after_is = ap (λ n. noop_entries desk n ++ log) is })
 
 -- ---- a pen's call

@@ -13,7 +13,8 @@ use Rattle.gm_shared.specs.declared.events.Noop.{Noop}
 use Rattle.gm_shared.specs.declared.tape.Told.{Told}
 use Rattle.gm_shared.specs.declared.receipt.Receipt.{Receipt}
 use Rattle.gm_shared.specs.Books.{Held}
-use Rattle.gm_shared.specs.Tokens.{KeeperState, one_witness_more}
+use Rattle.gm_shared.specs.declared.tape.Entry.{Entry}
+use Rattle.gm_ghost.specs.Owners.{KeeperState, one_witness_more}
 use Rattle.gm_shared.specs.Shared.{HasMade, numbers_below}
 
 pub held_so : {k : Settings} {steps : List Step} {s : Step} {desk : ℕ} {noop : Noop} {result same : Result Receipt ApplyError} {touched : List ℕ} {old new : Booked} {told : List Told}
@@ -79,9 +80,9 @@ pub all_more : {A : Type 0} (P : A → Type 0) (xs all : List A) (x : A) → all
 all_more P xs all x e h is = subst (λ l. All P l) (sym e) (All-push P xs x h is)
 
 -- two witnesses more
-pub made_more : (history : TableId) (n : ℕ) (old mid new : KeeperState) → HasMade (2 * n) history old → mid ≡ one_witness_more old → new ≡ one_witness_more mid → HasMade (2 * (n + 1)) history new
+pub made_more : (history : TableId) (n : ℕ) (old mid new : KeeperState Entry) → HasMade (2 * n) history old → mid ≡ one_witness_more old → new ≡ one_witness_more mid → HasMade (2 * (n + 1)) history new
 made_more history n old mid new h e f = record {
   history_is = ap (λ k. k.table) f ∙ (ap (λ k. k.table) e ∙ h.history_is);
   empty = ap (λ k. k.log) f ∙ (ap (λ k. k.log) e ∙ h.empty);
-  count_is = omega (arith, ap (λ (k : KeeperState). k.made) f, ap (λ (k : KeeperState). k.made) e, h.count_is);
+  count_is = omega (arith, ap (λ (k : KeeperState Entry). k.made) f, ap (λ (k : KeeperState Entry). k.made) e, h.count_is);
 }

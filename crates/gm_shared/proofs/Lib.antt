@@ -9,9 +9,7 @@ mod Comparing
 mod Places
 mod Ending
 mod Keeping
-pub mod Logs
-pub mod Moves
-pub mod Entering
 mod Entries
 mod Standing
 mod Shares
+mod Passing

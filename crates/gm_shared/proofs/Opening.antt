@@ -21,7 +21,7 @@ use Rattle.gm_shared.specs.Events.{entered}
 use Rattle.gm_shared.specs.Tapes.{steps_of, noop_entries, event_entry, tape_step}
 use Rattle.gm_shared.specs.Books.{Held, asked, unasked}
 use Rattle.gm_shared.specs.Calls.{added, drained_entries}
-use Rattle.gm_shared.specs.Openings.{if_one_more, openings, counted, count_at, counted_up, told_opening, opening_in, Counts}
+use Rattle.gm_shared.specs.Openings.{if_one_more, openings, counted, count_at, counted_up, Counts}
 
 -- a slot that is opened is one of the settings'
 free_below : (c n : ℕ) (notes : List Note) (d : ℕ) → free_from c n notes ≡ Some d → d < c + n
@@ -65,10 +65,6 @@ module _ (slots : ℕ) (counts : List ℕ) (log : List Entry) (is : Counts slots
   size_up None = is.size
   size_up (Some d) = length-set counts d (counted (count_at d counts + 1)) ∙ is.size
 
-  pub told_is : (o : Option ℕ) → told_opening o counts ≡ opening_in o log
-  told_is None = refl
-  told_is (Some c) = is.each c
-
 -- an event that was taken
 event_counts : (k : Settings) (s : Step) (desk : ℕ) (made : Done) (past : Past) (log : List Entry) (counts : List ℕ) → made ≡ done k s past → Counts k.slots counts log
     → Counts k.slots (counted_up made.opened counts) (event_entry desk (tape_step s) made ∷ log)
@@ -97,13 +93,13 @@ drained_counts slots pen slot (Err refused) log counts is = is
 
 -- a call
 abbrev pub Opened : Result Receipt ApplyError → List ℕ → List ℕ → Type 0
-Opened result old new = MatchResult result (λ receipt. (new ≡ counted_up receipt.done.opened old) × (receipt.opening ≡ told_opening receipt.done.opened new)) (λ _. new ≡ old)
+Opened result old new = MatchResult result (λ receipt. new ≡ counted_up receipt.done.opened old) (λ _. new ≡ old)
 
 pub held_counts : (k : Settings) (s : Step) (desk : ℕ) (noop : Noop) (result : Result Receipt ApplyError) (touched : List ℕ) (old new : Booked) (told : List Told) (log : List Entry)
     → Held k (steps_of log) s desk noop result touched old new told → Opened result old.openings new.openings → Counts k.slots old.openings log
     → Counts k.slots new.openings (added desk s result noop ++ log)
 held_counts k s desk noop (Ok receipt) touched old new told log (asked h) opened is =
-    subst (λ counts. Counts k.slots counts (event_entry desk (tape_step s) receipt.done ∷ (noop_entries desk noop ++ log))) (sym opened.0)
+    subst (λ counts. Counts k.slots counts (event_entry desk (tape_step s) receipt.done ∷ (noop_entries desk noop ++ log))) (sym opened)
     (event_counts k s desk receipt.done (run k (entered noop (steps_of log))) (noop_entries desk noop ++ log) old.openings h.event.done_is (noop_counts k.slots desk noop log old.openings is))
 held_counts k s desk noop (Err refused) touched old new told log held opened is = subst (λ counts. Counts k.slots counts (noop_entries desk noop ++ log)) (sym opened) (noop_counts k.slots desk noop log old.openings is)
 held_counts k s desk noop (Ok receipt) touched old new told log (unasked none h) opened is = let bad : Ok receipt ≡ Err _ = h.wanting in absurd cc

@@ -9,7 +9,7 @@ use Rattle.gm_shared.specs.declared.tape.Entry.{Entry}
 use Rattle.gm_shared.specs.declared.tape.Told.{Told}
 use Rattle.gm_shared.specs.Tapes.{actor_is, actor_code, share_from, share_of, told_from, AreShares, AddUp, told_in_all}
 use Rattle.gm_shared.specs.Histories.{calls_by, Knows, AreOf, AreBelow}
-use Rattle.gm_shared.specs.Tokens.{WitnessState}
+use Rattle.gm_ghost.specs.Owners.{WitnessState}
 use Rattle.gm_shared.specs.Shared.{numbers_below, everybody, actor_count, HasSeenOwn, IsShareOf}
 use Rattle.gm_shared.proofs.Places.{told_as, same_code, other_code}
 
@@ -186,7 +186,7 @@ are_shares : (entries : List Entry) (P : Actor × List Told → Type 0) → ((sh
 are_shares entries P own [] h = tt
 are_shares entries P own (share ∷ shares) h = (own share (h zero share (omega arith)), are_shares entries P own shares (λ i none lt. h (suc i) none (omega (arith, lt))))
 
--- Where everybody's share is there, and each is what the history has of its actor, they add up with the tape.
+-- If everybody's share is there, and each is what the history has of its actor, they add up with the tape.
 pub everybody_adds_up : (slots : ℕ) (taped : Bool) (log entries : List Entry) (shares : List (Actor × List Told)) → entries ≡ (if taped then reverse log else []) → AreBelow (actor_count slots) log
     → All (IsShareOf taped log) shares → actors_of shares ≡ everybody slots → AddUp entries shares
 everybody_adds_up slots taped log entries shares is below exact all =
@@ -203,8 +203,8 @@ everybody_adds_up slots taped log entries shares is below exact all =
 
 -- ---- the shares of those that are given back
 
--- Where actors have seen all of themselves, the share of each is what the history has of it.
-pub exact_of : {A : Type 0} (taped : Bool) (log : List Entry) (actor : A → Actor) (share : A → List Told) (witness : A → WitnessState)
+-- If actors have seen all of themselves, the share of each is what the history has of it.
+pub exact_of : {A : Type 0} (taped : Bool) (log : List Entry) (actor : A → Actor) (share : A → List Told) (witness : A → WitnessState Entry)
     → ((x : A) → share x ≡ share_of taped (actor x) (witness x).seen) → ((x : A) → (witness x).who ≡ actor_code (actor x)) → (xs : List A)
     → All (λ x. HasSeenOwn log (witness x)) xs → All (λ x. share x ≡ share_of taped (actor x) log) xs
 exact_of taped log actor share witness told who xs seen i none lt =

@@ -7,10 +7,10 @@ use Rattle.gm_shared.specs.declared.events.Noop.{Noop}
 use Rattle.gm_shared.specs.declared.tape.Entry.{Entry}
 use Rattle.gm_shared.specs.declared.receipt.Receipt.{Receipt}
 use Rattle.gm_shared.specs.Tapes.{actor_code, noop_entries}
-use Rattle.gm_shared.specs.Histories.{Knows, AreOf, calls_by}
+use Rattle.gm_shared.specs.Histories.{entry_owner, Knows, AreOf, calls_by}
 use Rattle.gm_shared.specs.Calls.{Calls, asks, lacks, added}
 use Rattle.gm_shared.specs.Laws.{Begins, OneBeginsTheOther, SeenIsOlder, OwnAreWhole}
-use Rattle.gm_shared.proofs.Logs.{calls_more, calls_known}
+use Rattle.gm_ghost.proofs.Logs.{entries_more, entries_known}
 use Rattle.gm_shared.proofs.Entries.{own_added, own_drained}
 
 -- of two ends of one list the shorter ends the longer
@@ -49,8 +49,8 @@ own_all who (e ∷ es) are =
 pub own_more : (who : ℕ) (es before seen after : List Entry) → AreOf who es → Knows before who seen → after ≡ es ++ before → calls_by who after ≡ es ++ calls_by who seen
 own_more who es before seen after are knows is =
     ap (calls_by who) is
-    ∙ (calls_more who es before
-    ∙ ap₂ (λ xs ys. xs ++ ys) (own_all who es are) (calls_known before who seen knows))
+    ∙ (entries_more entry_owner who es before
+    ∙ ap₂ (λ xs ys. xs ++ ys) (own_all who es are) (entries_known entry_owner before who seen knows))
 
 -- a call's entries, also where there was no room for any
 pub calls_add : (k : Settings) (taped : Bool) (s : Step) (desk : ℕ) (noop : Noop) (result : Result Receipt ApplyError) (touched : List ℕ) (before after : List Entry)

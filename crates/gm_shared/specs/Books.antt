@@ -39,8 +39,8 @@ withdrawals c [] = 0
 withdrawals c (Withdrew d ∷ older) = (if c == d then 1 else 0) + withdrawals c older
 withdrawals c (s ∷ older) = withdrawals c older
 
--- The book's lines say what the steps left: for each slot the phase, which is Awake where it isn't open, and how many of its
--- NOOPs were found taken, and how many were withdrawn.
+-- The book's lines say what the steps left: for each slot the phase, which is Awake where it isn't open, and how many
+-- of its NOOPs were found taken, and how many were withdrawn.
 pub record WordsAgree (lines : List WordLine) (k : Settings) (steps : List Step) : Type 0 where
   pub phases : (c : ℕ) → (line_at c lines).phase ≡ worded (phase c (run k steps).notes)
   pub entered : (c : ℕ) → (line_at c lines).entered ≡ takings c steps
@@ -89,8 +89,9 @@ abbrev pub AsksWord : Option ℕ → Past → List WordLine → List WordLine �
 AsksWord None past old new = Unit {0}
 AsksWord (Some c) past old new = owes c past ≡ true → (line_at c old).looks < (line_at c new).looks
 
--- What a holding did: it asked the word of the event's slot, found this of the NOOP, and entered it; after that the event was taken, or was refused and changed
--- nothing. Both are entered on the tape, if one is kept, and in the desk's share.
+-- What a holding did: it asked the word of the event's slot, found this of the NOOP, and entered it; after that the
+-- event was taken, or was refused and changed nothing. Both are entered on the tape, if one is kept, and in the desk's
+-- share.
 pub record Holding (k : Settings) (steps : List Step) (s : Step) (desk : ℕ) (noop : Noop) (result : Result Receipt ApplyError) (touched : List ℕ) (old new : Booked) (told : List Told) : Type 0 where
   pub asks : AsksWord (slot_of s) (run k steps) old.seat.lines new.seat.lines
   pub found : MayFind noop s (run k steps)

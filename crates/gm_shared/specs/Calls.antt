@@ -18,7 +18,7 @@ use Rattle.gm_shared.specs.Events.{MayFind}
 use Rattle.gm_shared.specs.Tapes.{steps_of, Legal, if_event, noop_entries, drain_entry}
 use Rattle.gm_shared.specs.Books.{AreTouched, IsDrainRefusal}
 use Rattle.gm_shared.specs.Histories.{Knows, calls_by}
-use Rattle.gm_shared.specs.Openings.{openings, counted, opening_in}
+use Rattle.gm_shared.specs.Openings.{openings, counted}
 use Rattle.gm_shared.specs.Tokens.{if_done}
 
 -- what has happened by a history
@@ -27,15 +27,15 @@ past_of k log = run k (steps_of log)
 
 -- ---- a desk's call
 
--- The event was taken after the entries `before`, with the definitions' answer and mode, how often the slot that it opened was opened then,
--- and with a tape the place behind them. Each slot that it changed is among the touched slots, and each that was changed since `older`, when the call began.
+-- The event was taken after the entries `before`, with the definitions' answer and mode, and with a tape the place
+-- behind them. Each slot that it changed is among the touched slots, and each that was changed since `older`, when the
+-- call began.
 pub record IsAnswered (k : Settings) (taped : Bool) (s : Step) (receipt : Receipt) (touched : List ℕ) (older before after : List Entry) : Type 0 where
   pub taken : refusal k s (past_of k before) ≡ None
   pub done_is : receipt.done ≡ done k s (past_of k before)
   pub mode_is : receipt.mode ≡ mode (past_of k after).notes
   pub touches : AreTouched k (steps_of older) (steps_of after) touched
   pub at_is : receipt.at ≡ (if taped then Some (length before) else None)
-  pub opening_is : receipt.opening ≡ opening_in receipt.done.opened after
 
 abbrev pub Answers : Settings → Bool → Step → Result Receipt ApplyError → List ℕ → List Entry → List Entry → List Entry → Type 0
 Answers k taped s (Ok receipt) touched older before after = IsAnswered k taped s receipt touched older before after
@@ -66,8 +66,8 @@ pub data Calls (k : Settings) (taped : Bool) (s : Step) (desk : ℕ) (noop : Noo
   asks : Asks k taped s desk noop result touched before after → Calls k taped s desk noop result touched before after
   lacks : Lacks taped noop result before after → Calls k taped s desk noop result touched before after
 
--- A desk's call. When it had the lock, the history was `before`: it goes on from what the desk had seen, with no entry of the desk
--- between. The call added this, nothing was added meanwhile, and the history after it is legal.
+-- A desk's call. When it had the lock, the history was `before`: it goes on from what the desk had seen, with no entry
+-- of the desk between. The call added this, nothing was added meanwhile, and the history after it is legal.
 pub record DeskCalled (k : Settings) (taped : Bool) (s : Step) (desk : ℕ) (result : Result Receipt ApplyError) (touched : List ℕ) (seen after : List Entry) : Type 0 where
   pub before : List Entry
   pub knows : Knows before (2 * desk) seen

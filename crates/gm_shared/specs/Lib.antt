@@ -8,3 +8,4 @@ pub mod Tokens
 pub mod Calls
 pub mod Shared
 pub mod Laws
+pub mod Pairings

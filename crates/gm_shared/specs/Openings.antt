@@ -1,5 +1,6 @@
 -- How often a slot was opened.
 use Rattle.std.specs.Prelude.{◌≡◌, ℕ, ◌+◌, ◌-◌, ◌^◌, min, ◌==◌, if◌then◌else◌, List, [], ◌∷◌, Option, Some, None, length, get_or, set}
+use Rattle.std.specs.List.{sum}
 use Rattle.gm_shared.specs.declared.tape.TapeStep.{TapeStep}
 use Rattle.gm_shared.specs.declared.tape.TapeStep.TheVariants as tape
 use Rattle.gm_shared.specs.declared.tape.Answer.{Answer}
@@ -27,11 +28,6 @@ most_openings = 2 ^ 64 - 1
 abbrev pub counted : ℕ → ℕ
 counted n = min n most_openings
 
--- how often the slot that was opened, if one was, had been opened then
-abbrev pub opening_in : Option ℕ → List Entry → ℕ
-opening_in None log = 0
-opening_in (Some c) log = counted (openings c log)
-
 -- ---- the counters
 
 abbrev pub count_at : ℕ → List ℕ → ℕ
@@ -42,9 +38,9 @@ abbrev pub counted_up : Option ℕ → List ℕ → List ℕ
 counted_up None counts = counts
 counted_up (Some c) counts = set counts c (counted (count_at c counts + 1))
 
-abbrev pub told_opening : Option ℕ → List ℕ → ℕ
-told_opening None counts = 0
-told_opening (Some c) counts = count_at c counts
+-- what all of them say together
+abbrev pub total_of : List ℕ → ℕ
+total_of counts = counted (sum counts)
 
 -- There is a counter for each slot, and it says how often the slot was opened.
 pub record Counts (slots : ℕ) (counts : List ℕ) (log : List Entry) : Type 0 where

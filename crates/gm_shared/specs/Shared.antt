@@ -19,7 +19,7 @@ use Rattle.gm_shared.specs.Tapes.{AddUp, share_of, steps_of, Legal}
 use Rattle.gm_shared.specs.Books.{takings, BookedAgrees}
 use Rattle.gm_shared.specs.Histories.{Knows, AreBelow}
 use Rattle.gm_shared.specs.Openings.{Counts}
-use Rattle.gm_shared.specs.Tokens.{KeeperState, WitnessState}
+use Rattle.gm_ghost.specs.Owners.{KeeperState, WitnessState}
 
 -- a book that nobody shares yet, the settings under which it serves, and whether it keeps a tape
 pub record BlankState : Type 0 where
@@ -37,20 +37,21 @@ pub record IsBlank (table : TableId) (k : Settings) (slots : ℕ) (booked : Book
   pub unopened : booked.openings ≡ replicate slots 0
 
 -- a count of witnesses were made of a history without an entry
-pub record HasMade (count : ℕ) (history : TableId) (keeper : KeeperState) : Type 0 where
+pub record HasMade (count : ℕ) (history : TableId) (keeper : KeeperState Entry) : Type 0 where
   pub history_is : keeper.table ≡ history
   pub empty : keeper.log ≡ []
   pub count_is : keeper.made ≡ count
 
-abbrev pub IsNew : TableId → KeeperState → Type 0
+abbrev pub IsNew : TableId → KeeperState Entry → Type 0
 IsNew history keeper = HasMade 0 history keeper
 
 -- how many actors share a book with this number of slots: a desk and a pen for each, and the control desk
 abbrev pub actor_count : ℕ → ℕ
 actor_count slots = 2 * slots + 1
 
--- What the lock keeps: the book agrees with the steps of the one history, which is legal under these settings and which the tape,
--- if one is kept, is. Each entry is of an actor of this book. Its words are in this table, and its counters say how often slots were opened.
+-- What the lock keeps: the book agrees with the steps of the one history, which is legal under these settings and which
+-- the tape, if one is kept, is. Each entry is of an actor of this book. Its words are in this table, and its counters
+-- say how often slots were opened.
 pub record IsGuarded (table : TableId) (k : Settings) (taped : Bool) (booked : Booked) (log : List Entry) : Type 0 where
   pub agrees : BookedAgrees booked k (steps_of log)
   pub legal : Legal k log
@@ -68,7 +69,7 @@ pub record GuardedState : Type 0 where
 -- ---- the end
 
 -- the history has nothing of a witness's actor that it hasn't seen
-abbrev pub HasSeenOwn : List Entry → WitnessState → Type 0
+abbrev pub HasSeenOwn : List Entry → WitnessState Entry → Type 0
 HasSeenOwn log witness = Knows log witness.who witness.seen
 
 -- a pen took the NOOPs that were entered as taken, or one more, where its slot is said to be owed one still
@@ -93,10 +94,11 @@ told_by share = (share.actor, share.told.items)
 abbrev pub IsShareOf : Bool → List Entry → Actor × List Told → Type 0
 IsShareOf taped log share = share.1 ≡ share_of taped share.0 log
 
--- What a book was when it ended: the history that is handed out is legal, the core agrees with its steps, and the tape, if one was kept, is it.
--- Each entry is of an actor of this book. These are the shares of the desks and pens that were given back, each what the history has of its
--- own, and these their witnesses. Its counters say how often slots were opened.
-pub record IsEnded (k : Settings) (taped : Bool) (settled : Settled) (shares : List (Actor × List Told)) (witnesses : List WitnessState) : Type 0 where
+-- What a book was when it ended: the history that is handed out is legal, the core agrees with its steps, and the tape,
+-- if one was kept, is it. Each entry is of an actor of this book. These are the shares of the desks and pens that were
+-- given back, each what the history has of its own, and these their witnesses. Its counters say how often slots were
+-- opened.
+pub record IsEnded (k : Settings) (taped : Bool) (settled : Settled) (shares : List (Actor × List Told)) (witnesses : List (WitnessState Entry)) : Type 0 where
   pub log : List Entry
   pub log_is : settled.history.log ≡ log
   pub legal : Legal k log
@@ -109,18 +111,18 @@ pub record IsEnded (k : Settings) (taped : Bool) (settled : Settled) (shares : L
   pub counts : Counts k.slots settled.openings log
 
 -- The shares add up, and the pens took what was entered.
-pub record IsSettled (k : Settings) (taped : Bool) (settled : Settled) (shares : List (Actor × List Told)) (witnesses : List WitnessState) (pens : List PenState) : Type 0 where
+pub record IsSettled (k : Settings) (taped : Bool) (settled : Settled) (shares : List (Actor × List Told)) (witnesses : List (WitnessState Entry)) (pens : List PenState) : Type 0 where
   pub ended : IsEnded k taped settled shares witnesses
   pub up : AddUp settled.tape.items shares
   pub takes : All (TookThose k (steps_of ended.log)) pens
 
 -- The shares don't add up, and one is missing.
-pub record IsUnsettled (k : Settings) (taped : Bool) (settled : Settled) (shares : List (Actor × List Told)) (witnesses : List WitnessState) : Type 0 where
+pub record IsUnsettled (k : Settings) (taped : Bool) (settled : Settled) (shares : List (Actor × List Told)) (witnesses : List (WitnessState Entry)) : Type 0 where
   pub ended : IsEnded k taped settled shares witnesses
   pub apart : AddUp settled.tape.items shares → ⊥
   pub missing : map (λ (share : Actor × List Told). share.0) shares ≡ everybody k.slots → ⊥
 
-abbrev pub WhySo : Settings → Bool → SettleError → List (Actor × List Told) → List WitnessState → Type 0
+abbrev pub WhySo : Settings → Bool → SettleError → List (Actor × List Told) → List (WitnessState Entry) → Type 0
 WhySo k taped Memory shares witnesses = Unit {0}
 WhySo k taped (Differs settled) shares witnesses = IsUnsettled k taped settled shares witnesses
 

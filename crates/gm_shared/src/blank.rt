@@ -40,8 +40,8 @@ impl Model for Blank {
 impl Blank {
     ghost use Rattle.gm_shared.specs.Tapes.{is_on};
 
-    /// The book of a new server under these settings, with a tape where that is asked. Names and ids come from strangers, so its tables hash with this
-    /// seed.
+    /// The book of a new server under these settings, with a tape where that is asked. Names and ids come from
+    /// strangers, so its tables hash with this seed.
     pub fn new(
         alloc: Global,
         seed: RandomState,

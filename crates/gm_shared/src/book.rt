@@ -8,7 +8,7 @@ ghost use Rattle.gm_notes.specs.Steps.{Step, run};
 ghost use Rattle.gm_notes.specs.Servers.{step_of, IsSized};
 ghost use Rattle.gm_core.specs.Holds.{AllTouched, CoreAgrees, outbox};
 ghost use Rattle.std.specs.Result.{IsErrOf, MatchResult};
-ghost use Rattle.gm_shared.specs.Openings.{count_at, counted_up, told_opening};
+ghost use Rattle.gm_shared.specs.Openings.{count_at, counted_up};
 
 use crate::events::{Noop, is_grab, slot_of};
 use crate::openings::Openings;
@@ -90,18 +90,18 @@ impl Booked {
     }
 
     /// Lets an event take effect, in one holding. It asks the word of the event's slot what became of the NOOP that the
-    /// slot is owed. One that was taken is entered first; so is one that is still owed and that the event withdraws, as taken
-    /// or as withdrawn. What is refused changes nothing but that; a refusal is one of `JobServer::apply`. What is entered on the
-    /// tape is added to the desk's share.
+    /// slot is owed. One that was taken is entered first; so is one that is still owed and that the event withdraws, as
+    /// taken or as withdrawn. What is refused changes nothing but that; a refusal is one of `JobServer::apply`. What is
+    /// entered on the tape is added to the desk's share.
     ///
     /// With a tape room for what it enters is found first, and copies of the bytes: where that fails `Memory` comes
     /// and nothing changes, also where the event would be refused.
     ///
-    /// Each slot whose waiting bytes, phase or shut changed is put into `touched`, and perhaps more: it is for them that a writer
-    /// may have something to do. A refused event adds none.
-    /// The set is the caller's, and not a part of the receipt, because a receipt is moved at each return. `freed` becomes what
-    /// is to be freed once no lock is held: the body of a job that ended. `found` becomes what was found of the slot's NOOP, also
-    /// where the event is refused.
+    /// Each slot whose waiting bytes, phase or shut changed is put into `touched`, and perhaps more: it is for them
+    /// that a writer may have something to do. A refused event adds none. The set is the caller's, and not a part of
+    /// the receipt, because a receipt is moved at each return. `freed` becomes what is to be freed once no lock is
+    /// held: the body of a job that ended. `found` becomes what was found of the slot's NOOP, also where the event is
+    /// refused.
     pub(crate) fn hold(
         &mut self,
         call: DeskCall<'_>,
@@ -121,8 +121,7 @@ impl Booked {
         ensures within { AreSlots self.old.slots touched.old → AreSlots self.old.slots touched.new }
         ensures memory { NeedsNoMemory self.old.tape.on (step_of call.entry.read.now.event) → IsErrOf result ApplyError.Memory → ⊥ }
         ensures table { self.new.seat.table ≡ self.old.seat.table }
-        ensures opened { MatchResult result (λ receipt. (self.new.openings ≡ counted_up receipt.done.opened self.old.openings)
-            × (receipt.opening ≡ told_opening receipt.done.opened self.new.openings)) (λ _. self.new.openings ≡ self.old.openings) }
+        ensures opened { MatchResult result (λ receipt. self.new.openings ≡ counted_up receipt.done.opened self.old.openings) (λ _. self.new.openings ≡ self.old.openings) }
     {
         // Modelled in models/deliver.pml and jobs.pml.
         let DeskCall { table, desk, read } = call;
@@ -132,20 +131,19 @@ impl Booked {
         *found = noop;
         self.tape.enter_noop(share, desk, noop);
         let done = self.core.apply_locked(read, freed)?;
-        let opening = self.openings.count(&done);
+        self.openings.count(&done);
         let at = self.tape.enter_event(share, desk, copies, done);
         self.follow(table, &read.event, touched);
         Ok(Receipt {
             at,
             done,
             mode: self.core.mode(),
-            opening,
         })
     }
 
-    /// Takes the bytes that wait for a slot, which wait no more. `NotOpen` comes where the slot isn't open; it
-    /// changes nothing. Without a tape it needs no memory; with one `Memory` comes where there is none for the entry
-    /// and its bytes, and changes nothing. The pen is the one that asks; what is entered on the tape is added to its share.
+    /// Takes the bytes that wait for a slot, which wait no more. `NotOpen` comes where the slot isn't open; it changes
+    /// nothing. Without a tape it needs no memory; with one `Memory` comes where there is none for the entry and its
+    /// bytes, and changes nothing. The pen is the one that asks; what is entered on the tape is added to its share.
     pub(crate) fn drain_into(
         &mut self,
         pen: u32,
@@ -242,7 +240,8 @@ impl Booked {
         }
     }
 
-    /// Makes the words of the slots follow the core that were touched since they were last taken, and puts them into the set.
+    /// Makes the words of the slots follow the core that were touched since they were last taken, and puts them into
+    /// the set.
     fn follow_touched(&mut self, table: &SleepTable, touched: &mut SlotSet)
         requires { self.old.seat.table ≡ table.now }
         ensures follows { FollowsTouched self.old self.new touched.old touched.new }

@@ -10,7 +10,7 @@ ghost use Rattle.std.specs.Result.{IsErrOf};
 
 use crate::book::{Booked, DeskCall};
 use crate::events::Noop;
-use crate::history::{History, Keeper, Witness};
+use crate::history::{History, Keeper, Witness, enter};
 use crate::name::BookName;
 use crate::receipt::{Drained, Receipt};
 use crate::shared::{Desk, Pen, Shared};
@@ -21,8 +21,8 @@ use gm_conns::SlotSet;
 use gm_notes::{ApplyError, Done};
 use std::marker::{Model, PhantomData};
 
-/// A book under its lock, with the keeper of the history that `K` names: it agrees with the settings that `K` names and the
-/// history's steps, and its words are in the table that `K` names.
+/// A book under its lock, with the keeper of the history that `K` names: it agrees with the settings that `K` names and
+/// the history's steps, and its words are in the table that `K` names.
 #[derive(Drop)]
 pub(crate) struct Guarded<K: BookName> {
     booked: Booked,
@@ -95,8 +95,13 @@ impl<K: BookName> Guarded<K> {
             .booked
             .hold(call, &mut desk.share, touched, freed, &mut noop);
         let what = What::Call(noop, read.event, done_in(&result));
-        self.keeper
-            .enter(&shared.history, &mut desk.witness, number, what);
+        enter(
+            &mut self.keeper,
+            &shared.history,
+            &mut desk.witness,
+            number,
+            what,
+        );
         result
     }
 
@@ -117,8 +122,13 @@ impl<K: BookName> Guarded<K> {
             Ok(drained) => What::Drain(slot, &drained.bytes),
             Err(_) => What::Nothing,
         };
-        self.keeper
-            .enter(&shared.history, &mut pen.witness, slot, what);
+        enter(
+            &mut self.keeper,
+            &shared.history,
+            &mut pen.witness,
+            slot,
+            what,
+        );
         result
     }
 
@@ -129,7 +139,7 @@ impl<K: BookName> Guarded<K> {
         ensures seen { HasSeenOwn self.old.log witness.old }
         ensures kept { self.new ≡ self.old }
     {
-        self.keeper.enter(history, witness, 0, What::Nothing);
+        enter(&mut self.keeper, history, witness, 0, What::Nothing);
     }
 
     /// The book, which is under no lock any more, and the keeper of its history.

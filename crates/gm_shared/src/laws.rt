@@ -1,5 +1,5 @@
-//! Laws of the one history of all calls, which exists in proofs alone. Each function is a law: its body does nothing, and its
-//! contract is the law.
+//! Laws of the one history of all calls, which exists in proofs alone. Each function is a law: its body does nothing,
+//! and its contract is the law.
 
 ghost use Rattle.gm_shared.specs.Laws.{OneBeginsTheOther, SeenIsOlder, OwnAreWhole};
 

@@ -8,10 +8,11 @@
 //! `Shared::open` makes of a `Blank` what threads share, with a `Desk` and a `Pen` for each slot: at a desk events are
 //! handed in, a pen takes out what waits for its slot. A pen takes an owed NOOP without the lock.
 //!
-//! There is one history of all calls, in proofs alone: what the lock guards knows all of it, and a desk or a pen how much of
-//! it there was at its last call. Contracts say what a call adds to it, and that its answer is the definitions' there.
+//! There is one history of all calls, in proofs alone: what the lock guards knows all of it, and a desk or a pen how
+//! much of it there was at its last call. Contracts say what a call adds to it, and that its answer is the definitions'
+//! there.
 //!
-//! Where that is asked, the book keeps a tape of all accepted calls, and `settle` compares it in the end with what the
+//! If that is asked, the book keeps a tape of all accepted calls, and `settle` compares it in the end with what the
 //! desks and the pens were told.
 #![tactic(auto)]
 
@@ -24,13 +25,12 @@ mod history;
 pub mod laws;
 mod name;
 mod openings;
+mod pairing;
 mod receipt;
-mod rule;
 mod settling;
 mod shared;
 mod surface;
 mod tape;
-mod view;
 mod what;
 mod words;
 
@@ -39,6 +39,7 @@ pub use book::Booked;
 pub use history::Keeper;
 pub use name::BookName;
 pub use openings::Openings;
+pub use pairing::{BlankPairing, PairSide, Pairing};
 pub use receipt::{Drained, Receipt};
 pub use settling::{SettleError, Settled, settle};
 pub use shared::{Desk, Pen, Shared};

@@ -1,7 +1,7 @@
 //! How often each slot of a book was opened.
 
 ghost use Rattle.std.specs.Prelude.{◌≡◌, replicate, IfOk};
-ghost use Rattle.gm_shared.specs.Openings.{count_at, counted_up, told_opening};
+ghost use Rattle.gm_shared.specs.Openings.{count_at, counted_up, total_of};
 
 use gm_notes::Done;
 use std::alloc::{AllocError, Global};
@@ -41,17 +41,25 @@ impl Openings {
         }
     }
 
-    /// Counts the opening that an event made, if it made one, and answers how often that slot was opened then.
-    pub(crate) fn count(&mut self, done: &Done) -> u64
-        ensures counts { self.new ≡ counted_up done.now.opened self.old }
-        ensures tells { result ≡ told_opening done.now.opened self.new }
+    /// How often slots were opened in all. At the greatest `u64` it stays there.
+    pub fn total(&self) -> u64
+        ensures { result ≡ total_of self.now }
     {
-        let Some(slot) = done.opened else {
-            return 0;
-        };
-        if let Some(count) = self.counts.get_mut(slot as usize) {
+        let mut total = 0u64;
+        for count in &self.counts {
+            total = total.saturating_add(*count);
+        }
+        total
+    }
+
+    /// Counts the opening that an event made, if it made one.
+    pub(crate) fn count(&mut self, done: &Done)
+        ensures { self.new ≡ counted_up done.now.opened self.old }
+    {
+        if let Some(slot) = done.opened
+            && let Some(count) = self.counts.get_mut(slot as usize)
+        {
             *count = count.saturating_add(1);
         }
-        self.of(slot)
     }
 }

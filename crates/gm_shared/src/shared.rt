@@ -28,8 +28,9 @@ use std::hint::spin_loop;
 use std::marker::PhantomData;
 use std::sync::{Mutex, MutexGuard, Wait};
 
-/// How often a thread looks whether the book's lock is free, before it sleeps until it is. With as few as a hundred looks most of those that
-/// sleep find the lock free at once; with as many as 2,000, threads that outnumber the processors wait for each other.
+/// How often a thread looks whether the book's lock is free, before it sleeps until it is. With as few as a hundred
+/// looks most of those that sleep find the lock free at once; with as many as 2,000, threads that outnumber the
+/// processors wait for each other.
 const MOST_LOOKS: u32 = 300;
 
 /// The book of a job server, which threads share: the sleep words, and the core under its lock.
@@ -44,8 +45,8 @@ pub struct Shared<K: BookName> {
     ghost meant: { as_gearmand ≡ K.settings.as_gearmand },
 }
 
-/// Where one thread hands in events. Desks have numbers: one for each slot, and that of the control desk is the
-/// number of slots. A desk knows how much of the history there was at its last call. Where a tape is kept, it keeps its own
+/// Where one thread hands in events. Desks have numbers: one for each slot, and that of the control desk is the number
+/// of slots. A desk knows how much of the history there was at its last call. If a tape is kept, it keeps its own
 /// part of that, its share: each of its calls, with the place and the answer.
 #[derive(Drop)]
 pub struct Desk<K: BookName> {
@@ -116,7 +117,8 @@ impl<K: BookName> Shared<K> {
         self.as_gearmand
     }
 
-    /// Takes the book's lock. It is held for about a microsecond, so a thread looks for a while whether it is free, before it sleeps.
+    /// Takes the book's lock. It is held for about a microsecond, so a thread looks for a while whether it is free,
+    /// before it sleeps.
     fn lock_book(&self, rt: &impl Wait) -> MutexGuard<'_, Guarded<K>> {
         for _ in 0..MOST_LOOKS {
             if let Some(guard) = self.book.try_lock() {
@@ -150,8 +152,9 @@ impl<K: BookName> Desk<K> {
         self.number
     }
 
-    /// As `apply`. Each slot whose waiting bytes, phase or shut changed and to which something is to be delivered is put into `touched`,
-    /// and perhaps more of the book's slots: it is for them that a writer may have something to do. A refused event adds none.
+    /// As `apply`. Each slot whose waiting bytes, phase or shut changed and to which something is to be delivered is
+    /// put into `touched`, and perhaps more of the book's slots: it is for them that a writer may have something to do.
+    /// A refused event adds none.
     pub fn apply_with(
         &mut self,
         rt: &impl Wait,
@@ -218,9 +221,9 @@ impl<K: BookName> Pen<K> {
     }
 
     /// Takes the bytes that wait for the slot, which wait no more, and tells whether it is shut. `NotOpen` comes where
-    /// the slot isn't open; it changes nothing. The drain is the next entry of the history, behind all that the pen has seen
-    /// of it. It may wait for the lock. Without a tape it needs no memory; with one the drain is in the pen's share, and
-    /// `Memory` comes where there is none for that, and changes nothing.
+    /// the slot isn't open; it changes nothing. The drain is the next entry of the history, behind all that the pen has
+    /// seen of it. It may wait for the lock. Without a tape it needs no memory; with one the drain is in the pen's
+    /// share, and `Memory` comes where there is none for that, and changes nothing.
     pub fn drain(&mut self, rt: &impl Wait, shared: &Shared<K>) -> Result<Drained, ApplyError>
         ensures called { PenCalled K.settings K.taped self.old.slot self.old.slot result self.old.witness.seen self.new.witness.seen }
         ensures slot { self.new.slot ≡ self.old.slot }

@@ -15,10 +15,10 @@ use gm_notes::{ApplyError, Event};
 use std::sync::Wait;
 
 impl<K: BookName> Desk<K> {
-    /// Hands in an event, which takes effect in one critical section, as `Booked::hold` says: it is the next entry of the
-    /// history, behind all that the desk has seen of it. It may wait for the lock. Without a tape a closing never lacks
-    /// memory. With one the event and its place are in the desk's share, after what was found of a NOOP. It is for callers
-    /// that notify nobody of what the event touched.
+    /// Hands in an event, which takes effect in one critical section, as `Booked::hold` says: it is the next entry of
+    /// the history, behind all that the desk has seen of it. It may wait for the lock. Without a tape a closing never
+    /// lacks memory. With one the event and its place are in the desk's share, after what was found of a NOOP. It is
+    /// for callers that notify nobody of what the event touched.
     pub fn apply(
         &mut self,
         rt: &impl Wait,

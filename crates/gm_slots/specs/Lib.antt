@@ -1,1 +1,5 @@
+pub mod Owners
+pub mod Given
+pub mod Connections
+pub mod Accounts
 pub mod Served

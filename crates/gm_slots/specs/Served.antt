@@ -9,12 +9,13 @@ use Rattle.gm_shared.specs.declared.settling.Settled.{Settled}
 use Rattle.gm_shared.specs.declared.tape.Share.{Share}
 use Rattle.gm_shared.specs.declared.settling.SettleError.{SettleError}
 use Rattle.gm_shared.specs.declared.settling.SettleError.TheVariants as of_book
+use Rattle.gm_shared.specs.Openings.{Counts, total_of}
 use Rattle.gm_shared.specs.Tapes.{AddUp, steps_of, Legal}
 use Rattle.gm_shared.specs.Shared.{told_by, everybody}
 use Rattle.gm_core.specs.Holds.{CoreAgrees}
-use Rattle.gm_promise.specs.Owners.{AreOwn}
-use Rattle.gm_promise.specs.declared.account.Account.{Account}
-use Rattle.gm_promise.specs.Accounts.{AreCounted, AreAccounted}
+use Rattle.gm_slots.specs.Owners.{AreOwn}
+use Rattle.gm_slots.specs.declared.account.Account.{Account}
+use Rattle.gm_slots.specs.Accounts.{AreCounted, AreAccounted}
 use Rattle.gm_report.specs.declared.error.ServeError.{ServeError}
 use Rattle.gm_report.specs.declared.error.ServeError.TheVariants as errors
 use Rattle.gm_report.specs.Statuses.{summary_status}
@@ -29,8 +30,9 @@ HasEverybody k settled = map (λ (share : Share). share.actor) settled.shares.it
 abbrev pub AllClosed : BookSettings → List Step → Type 0
 AllClosed k steps = (c : ℕ) → c < k.slots → is_open c (run k steps).notes ≡ false
 
--- A server ended with the history of this book, which is legal, and in which each entry is its desk's or pen's own. The core is what it leads to,
--- and the tape, where one was kept, is it. The shares add up with the tape, and none is missing. No slot is open, and each connection was served as it
+-- A server ended with the history of this book, which is legal, and in which each entry is its desk's or pen's own. The
+-- core is what it leads to, and the tape, where one was kept, is it. The shares add up with the tape, and none is
+-- missing. No slot is open, each slot was opened as often as is said, and each connection was served as the history
 -- says, with these limits of a unit.
 pub record IsWhole (k : BookSettings) (taped : Bool) (limits : Limits) (history : TableId) (settled : Settled) (accounts : List Account) : Type 0 where
   pub of : settled.history.table ≡ history
@@ -41,6 +43,7 @@ pub record IsWhole (k : BookSettings) (taped : Bool) (limits : Limits) (history 
   pub up : AddUp settled.tape.items (map told_by settled.shares.items)
   pub everybody : HasEverybody k settled
   pub closed : AllClosed k (steps_of settled.history.log)
+  pub counts : Counts k.slots settled.openings settled.history.log
   pub accounted : AreAccounted k limits settled.history.log accounts
 
 -- A share is missing, a slot is open, or an account has other limits or doesn't have all openings of its slot.
@@ -57,12 +60,12 @@ SettledSo k taped limits history (Err (of_book.Differs settled)) accounts = IsPa
 abbrev pub EndsSo : BookSettings → Bool → Limits → Served → Type 0
 EndsSo k taped limits served = (history : TableId) × SettledSo k taped limits history served.book served.accounts.items
 
--- what is said of that: how many entries its tape has
-abbrev pub summary_of : ℕ → Result Settled SettleError → Result Summary ServeError
-summary_of connections (Ok settled) = Ok (record { connections = connections; entries = vec_len settled.tape })
-summary_of connections (Err of_book.Memory) = Err errors.Memory
-summary_of connections (Err (of_book.Differs settled)) = Err errors.Differs
+-- what is said of that: how many connections its book opened, and how many entries its tape has
+abbrev pub summary_of : Result Settled SettleError → Result Summary ServeError
+summary_of (Ok settled) = Ok (record { connections = total_of settled.openings; entries = vec_len settled.tape })
+summary_of (Err of_book.Memory) = Err errors.Memory
+summary_of (Err (of_book.Differs settled)) = Err errors.Differs
 
 -- the status that a program ends with whose server served so
 abbrev pub served_status : Served → ℕ
-served_status served = summary_status (summary_of served.connections served.book)
+served_status served = summary_status (summary_of served.book)

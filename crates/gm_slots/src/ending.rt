@@ -11,18 +11,18 @@ ghost use Rattle.gm_shared.specs.Tapes.{steps_of};
 ghost use Rattle.gm_shared.specs.declared.tape.Actor.TheVariants as actors;
 ghost use Rattle.gm_shared.specs.Shared.{everybody, numbers_below};
 ghost use Rattle.gm_session.specs.Owners.{SaysOwn};
-ghost use Rattle.gm_promise.specs.declared.account.Account.{Account};
-ghost use Rattle.gm_promise.specs.Accounts.{AreAccounts, AreCounted};
+ghost use Rattle.gm_slots.specs.declared.account.Account.{Account};
+ghost use Rattle.gm_slots.specs.Accounts.{AreAccounts, AreCounted};
 ghost use Rattle.gm_slots.specs.Served.{HasEverybody, AllClosed, IsWhole, SettledSo};
 
+use crate::account::Account;
 use crate::served::Served;
 use crate::slot::{Slot, SlotParts};
 use gm_core::Core;
 use gm_feeder::Limits;
-use gm_promise::Account;
 use gm_session::OwnDesk;
 use gm_shared::{
-    Actor, BookName, Desk, Openings, Pen, SettleError, Settled, Share, Shared, settle,
+    Actor, BookName, Desk, Openings, Pairing, Pen, SettleError, Settled, Share, Shared, settle,
 };
 use std::alloc::{AllocError, Global};
 
@@ -71,6 +71,7 @@ fn all_parts<K: BookName>(
     alloc: Global,
     slots: Vec<Slot<K>>,
     control: OwnDesk<K>,
+    pairing: &mut Pairing<K>,
 ) -> Result<AllParts<K>, AllocError>
     ensures own { IfOk result (λ all. All (λ desk. SaysOwn desk.number desk.witness.seen) all.desks.items) }
     ensures accounts { IfOk result (λ all. AreAccounts K.settings (map (λ desk. (desk.number, desk.witness.seen)) all.desks.items)
@@ -81,7 +82,7 @@ fn all_parts<K: BookName>(
     let mut pens = Vec::with_capacity(alloc, slots.len())?;
     let mut accounts = Vec::with_capacity(alloc, slots.len())?;
     for slot in slots {
-        let SlotParts { desk, pen, account } = slot.into_parts();
+        let SlotParts { desk, pen, account } = slot.into_parts(pairing);
         desks.push(desk.into_desk())?;
         pens.push(pen)?;
         accounts.push(account)?;
@@ -133,7 +134,8 @@ fn are_counted(openings: &Openings, accounts: &[Account], slots: u32, limits: Li
     true
 }
 
-/// A book that is settled, if everybody's share is there, no slot is open, and each account has these limits and all openings of its slot.
+/// A book that is settled, if everybody's share is there, no slot is open, and each account has these limits and all
+/// openings of its slot.
 fn with_everybody(
     settled: Settled,
     actors: &[Actor],
@@ -157,27 +159,28 @@ fn with_everybody(
     }
 }
 
-/// Settles the book of a server once no thread has any part of it: what its slots and its control desk were given comes back.
-/// This many connections were opened, and a unit was within these limits.
+/// Settles the book of a server once no thread has any part of it: what its slots and its control desk were given comes
+/// back. A unit was within these limits.
 pub fn settle_slots<K: BookName>(
     alloc: Global,
     shared: Shared<K>,
     slots: Vec<Slot<K>>,
     slot_count: u32,
     control: OwnDesk<K>,
+    pairing: Pairing<K>,
     limits: Limits,
-    connections: u64,
 ) -> Result<Served, AllocError>
     requires sized { slot_count ≡ K.settings.slots }
     requires numbered { map (λ slot. slot.lane.slot) slots.items ≡ numbers_below slot_count }
     ensures { IfOk result (λ served. SettledSo K.settings K.taped limits K.history served.book served.accounts.items) }
 {
+    let mut pairing = pairing;
     let actors = everybody(alloc, slot_count)?;
     let AllParts {
         desks,
         pens,
         accounts,
-    } = all_parts(alloc, slots, control)?;
+    } = all_parts(alloc, slots, control, &mut pairing)?;
     let book = match settle(alloc, shared, desks, pens) {
         Ok(settled) => with_everybody(
             settled,
@@ -188,9 +191,5 @@ pub fn settle_slots<K: BookName>(
         ),
         Err(error) => Err(error),
     };
-    Ok(Served {
-        connections,
-        book,
-        accounts,
-    })
+    Ok(Served { book, accounts })
 }

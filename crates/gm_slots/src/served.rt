@@ -3,15 +3,13 @@
 ghost use Rattle.std.specs.Prelude.{◌≡◌};
 ghost use Rattle.gm_slots.specs.Served.{summary_of, served_status};
 
-use gm_promise::Account;
+use crate::account::Account;
 use gm_report::{ServeError, Summary};
 use gm_shared::{SettleError, Settled};
 
 /// A server that served and ended, with its book as it was settled. Only `settle_slots` makes one.
 #[derive(Drop)]
 pub struct Served {
-    /// How many connections were opened; at the greatest `u64` it stays there.
-    pub connections: u64,
     // What its book was, and whether the shares of its connections add up.
     pub(crate) book: Result<Settled, SettleError>,
     // What each slot's connections read and were written, in the slots' order, which only proofs know.
@@ -21,11 +19,11 @@ pub struct Served {
 impl Served {
     /// What is said of it, or why its book couldn't be settled.
     pub fn summary(&self) -> Result<Summary, ServeError>
-        ensures { result ≡ summary_of self.now.connections self.now.book }
+        ensures { result ≡ summary_of self.now.book }
     {
         match &self.book {
             Ok(settled) => Ok(Summary {
-                connections: self.connections,
+                connections: settled.openings.total(),
                 entries: settled.tape.len() as u64,
             }),
             Err(SettleError::Memory) => Err(ServeError::Memory),

@@ -26,7 +26,8 @@ fn assert_slots(rt: &impl Abort, event: Given, set: &SlotSet, slots: &[u32]) {
     same(rt, event, &set.next(from), &None);
 }
 
-/// The receipt says this, and the event touched these slots, if that was asked. The receipt has a place where a tape is kept.
+/// The receipt says this, and the event touched these slots, if that was asked. The receipt has a place where a tape is
+/// kept.
 fn assert_answer(
     rt: &impl Abort,
     tape: TapeMode,
@@ -131,8 +132,8 @@ impl<'a> Scene for Calls<'a> {
     }
 }
 
-/// The calls are made in a new book with this many slots, by both calls of a desk. It gives the numbers of entries on the book's
-/// tape, which is settled.
+/// The calls are made in a new book with this many slots, by both calls of a desk. It gives the numbers of entries on
+/// the book's tape, which is settled.
 fn play_calls<R: RandomSource + Threads + Wait + Clock + Abort + AllocGlobal + Sync>(
     rt: &R,
     slots: u32,
@@ -198,7 +199,8 @@ fn found(entry: Option<&Entry>) -> Option<bool> {
     }
 }
 
-/// The worker asks for a job, which the receipt tells to be entry 6. Before that its NOOP is entered, as taken or as withdrawn.
+/// The worker asks for a job, which the receipt tells to be entry 6. Before that its NOOP is entered, as taken or as
+/// withdrawn.
 fn assert_found<R: RandomSource + Threads + Wait + Clock + Abort + AllocGlobal + Sync>(
     rt: &R,
     parts: &[&[Call]],

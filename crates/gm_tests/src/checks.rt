@@ -1,5 +1,5 @@
-//! What tests ask of values. A call of one of these costs a proof little; an assertion in its place would be spelled out
-//! each time.
+//! What tests ask of values. A call of one of these costs a proof little; an assertion in its place would be spelled
+//! out each time.
 
 ghost use Rattle.std.specs.Prelude.{IsTrue};
 

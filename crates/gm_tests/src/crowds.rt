@@ -151,8 +151,8 @@ fn assert_numbers(
     Ok(())
 }
 
-/// Adds the jobs that a worker was handed, which are one for each time that it asked, but where there was none. They were
-/// submitted one after another.
+/// Adds the jobs that a worker was handed, which are one for each time that it asked, but where there was none. They
+/// were submitted one after another.
 fn add_assigned(rt: &impl Abort, bytes: &[u8], jobs: &mut Vec<u64>) -> Result<(), Fail> {
     let mut rest = bytes;
     let mut last = 0;

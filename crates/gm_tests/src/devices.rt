@@ -2,7 +2,8 @@
 
 use crate::checks::same;
 use gm_bytes::ByteQueue;
-use gm_delivery::{KnownWriter, Message, Sent, Wire, WriteFault, write_turn};
+use gm_delivery::{Message, Sent, WriteFault, write_turn};
+use gm_socket::{KnownWriter, Wire};
 use std::alloc::Global;
 use std::io::{Error, ErrorKind, Read, Result, Write};
 use std::process::Abort;
@@ -56,10 +57,20 @@ impl Write for FailingWriter {
 }
 
 impl KnownWriter for FailingWriter {
-    ghost use Rattle.std.specs.Prelude.{None};
+    ghost use Rattle.std.specs.Prelude.{None, false};
 
     // What it takes is compared.
     ghost contents = { λ _. None };
+
+    ghost answers = { λ _. None };
+
+    ghost socket = { λ _. None };
+
+    ghost is_over = { λ _. false };
+
+    fn is_over(&self) -> bool {
+        false
+    }
 }
 
 impl Wire<()> for FailingWriter {
@@ -106,8 +117,8 @@ fn sent(
     Err(Fail::from("a message without end"))
 }
 
-/// A message is written like this, and is delivered like this, where there is room for this many bytes: all of it, or as many
-/// bytes as there is room for.
+/// A message is written like this, and is delivered like this, where there is room for this many bytes: all of it, or
+/// as many bytes as there is room for.
 fn assert_written(
     rt: &impl Abort,
     alloc: Global,

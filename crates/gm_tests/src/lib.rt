@@ -1,6 +1,6 @@
-//! Tests of the public calls of the library crates: vectors and worked cases from the protocol; a shared book, by worked
-//! cases over its desks and pens and by threads that work at it at once; sessions, and what a writer writes. It holds nothing
-//! else.
+//! Tests of the public calls of the library crates: vectors and worked cases from the protocol; a shared book, by
+//! worked cases over its desks and pens and by threads that work at it at once; sessions, and what a writer writes. It
+//! holds nothing else.
 #![tactic(auto)]
 
 #[cfg(test)]

@@ -1,6 +1,6 @@
-//! A shared book with all its desks and pens, and the function that makes it, has something done there and settles it: the
-//! proof of a function that owns a room says at each way out how all its parts are dropped, so there is this one, and one
-//! more where desks go to threads, which no method of a trait can hand them to.
+//! A shared book with all its desks and pens, and the function that makes it, has something done there and settles it:
+//! the proof of a function that owns a room says at each way out how all its parts are dropped, so there is this one,
+//! and one more where desks go to threads, which no method of a trait can hand them to.
 
 ghost use Rattle.std.specs.Prelude.{◌≡◌};
 
@@ -23,8 +23,8 @@ use std::test::Fail;
 use std::thread::Threads;
 use std::time::Clock;
 
-/// The settings of a server with this many slots, which gives a job to at most this many workers; 0 is no limit. The rest is as
-/// it is where nothing else is asked for.
+/// The settings of a server with this many slots, which gives a job to at most this many workers; 0 is no limit. The
+/// rest is as it is where nothing else is asked for.
 pub fn config(alloc: Global, slots: u32, retries: u32) -> Result<Config, Fail> {
     Ok(Config::new(Vec::from_slice(alloc, b"gmd")?, 1, slots, 65536)?.with_retries(retries))
 }
@@ -237,8 +237,8 @@ fn entries(outcome: &Result<Vec<Entry>, u8>) -> Result<usize, u8> {
     }
 }
 
-/// Plays in a new room with this many slots, with a tape or without, and says what the book's settling answers. It plays again
-/// with each growth refused that the scene lets be refused, and the answer has to be the same.
+/// Plays in a new room with this many slots, with a tape or without, and says what the book's settling answers. It
+/// plays again with each growth refused that the scene lets be refused, and the answer has to be the same.
 pub fn play_to_the_end<S: Scene, R: RandomSource + Threads + Wait + Clock + Abort + Sync>(
     rt: &R,
     alloc: Global,

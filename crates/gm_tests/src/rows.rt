@@ -69,7 +69,7 @@ pub enum Call {
     },
 }
 
-/// A row of what is done, and what comes of it. Where it names no desk, an event goes in at that of its slot.
+/// A row of what is done, and what comes of it. If it names no desk, an event goes in at that of its slot.
 macro_rules! call {
     (open $slot:literal) => {
         Call::Apply {

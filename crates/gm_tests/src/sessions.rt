@@ -107,8 +107,8 @@ const BROKEN: &[u8] = b"version\n\0REQ\0\0\0\x10\0\0\0\x02hi\0RES";
 const ALL: &[u8] =
     b"OK 1.0.0\n\0RES\0\0\0\x11\0\0\0\x02hi\0RES\0\0\0\x13\0\0\0\x13bad_magic\0bad magic";
 
-/// The reader's bytes, its pieces, the calls that don't fail, the end of the session, what then waits, and the entries of
-/// the opening, of each unit and fault, and of the drain.
+/// The reader's bytes, its pieces, the calls that don't fail, the end of the session, what then waits, and the entries
+/// of the opening, of each unit and fault, and of the drain.
 static ENDS: [(&[u8], usize, u32, SessionEnd, &[u8], usize); 9] = [
     (ECHO, 5, 9, SessionEnd::Ended, ANSWER, 3),
     (ECHO, 6, 1, SessionEnd::ReadFault, b"", 2),

@@ -22,7 +22,8 @@ enum Lost {
     Pen,
 }
 
-/// An opening, an echo and its drain, after which something isn't given back: the places and modes that the receipts tell.
+/// An opening, an echo and its drain, after which something isn't given back: the places and modes that the receipts
+/// tell.
 #[derive(Clone, Copy)]
 struct Echo {
     lost: Lost,
@@ -96,8 +97,8 @@ fn tape_and_shares(rt: HostRuntime) -> Result<(), Fail> {
     Ok(())
 }
 
-/// A worker that is owed a NOOP disconnects. Without memory for that, it does so the next time. Its desk's share has three
-/// entries before, so that the closing finds no room for two more.
+/// A worker that is owed a NOOP disconnects. Without memory for that, it does so the next time. Its desk's share has
+/// three entries before, so that the closing finds no room for two more.
 #[derive(Clone, Copy)]
 struct Goes;
 

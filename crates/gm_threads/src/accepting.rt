@@ -1,20 +1,22 @@
 //! The control thread: it takes connections, and hands in ticks.
 
-ghost use Rattle.std.specs.Prelude.{◌≡◌, [], Some, None, IfOk, pos};
+ghost use Rattle.std.specs.Prelude.{◌≡◌, [], pos};
 
 use crate::crews;
 use crate::keepalive::set_peer_timeout;
 use crate::progress::Progress;
 use crate::serving::discard;
 use crate::state::ServerState;
-use gm_delivery::{ReadHalf, ServerStage, WriteHalf, split};
+use gm_delivery::ServerStage;
 use gm_feeder::Patience;
 use gm_notes::ApplyError;
 use gm_poll::Poller;
-use gm_report::{ACCEPT_TIMEOUT_MS, AGAIN_MS, Announcer, ServeError, Trouble, VISITING_TIME_MS};
-use gm_session::{Gate, LoggedSource, Opened};
-use gm_shared::BookName;
+use gm_report::{Announcer, ServeError, Trouble};
+use gm_session::{Gate, SessionEnd};
+use gm_shared::{BookName, Pairing};
 use gm_slots::Slot;
+use gm_socket::{Halves, LoggedWriter, Socket};
+use gm_time::{ACCEPT_TIMEOUT_MS, AGAIN_MS, VISITING_TIME_MS};
 use libc::{EBADF, EINVAL, EMFILE, ENOTSOCK};
 use std::alloc::{AllocError, Global};
 use std::io::{ErrorKind, Write};
@@ -104,66 +106,28 @@ impl From<AllocError> for Rejection {
     }
 }
 
-/// The two halves of one connection's socket, of which nothing was read or written yet. Both are assigned to one opening of a slot, or none is yet.
-#[derive(Drop)]
-struct Halves {
-    reading: LoggedSource<ReadHalf>,
-    writing: WriteHalf,
-    ghost paired: { reading.0.stream.value ≡ writing.socket.0.stream.value },
-    ghost of_one_opening: { reading.3 ≡ writing.of },
-    ghost unread: { reading.2 ≡ [] },
-    ghost unwritten: { writing.socket.2 ≡ [] },
-}
-
-impl Halves {
-    /// The halves of this socket, which are assigned to no opening yet.
-    fn new(alloc: Global, stream: TcpStream) -> Result<Halves, AllocError>
-        ensures { IfOk result (λ halves. halves.writing.of ≡ None) }
-    {
-        let (reading, writing) = split(alloc, stream)?;
-        Ok(Halves {
-            reading: LoggedSource::new(alloc, reading)?,
-            writing,
-        })
-    }
-
-    /// Assigns them to an opening, which is used up.
-    fn of_opening(self, opened: Opened) -> Halves
-        requires { self.writing.of ≡ None }
-        ensures { result.writing.of ≡ Some (opened.slot, opened.opening) }
-    {
-        let Halves {
-            mut reading,
-            mut writing,
-        } = self;
-        reading.assign_to(&opened);
-        writing.assign_to(opened.slot(), opened.opening());
-        Halves { reading, writing }
-    }
-}
-
 /// What the control thread works with.
 #[derive(Drop)]
 pub(crate) struct Control<'s, K: BookName> {
-    state: &'s ServerState<'s, K>,
-    /// How many connections were opened.
-    opened: u64,
+    state: &'s ServerState<K>,
+    /// What hands each connection's socket to both sides of its slot.
+    pairing: Pairing<K>,
     /// The second in which it was last told how the server is.
     told: u64,
 }
 
 impl<'s, K: BookName + Send + Sync> Control<'s, K> {
-    pub(crate) fn new(state: &'s ServerState<'s, K>) -> Control<'s, K> {
+    pub(crate) fn new(state: &'s ServerState<K>, pairing: Pairing<K>) -> Control<'s, K> {
         Control {
             state,
-            opened: 0,
+            pairing,
             told: 0,
         }
     }
 
     /// Gives a connection to its slot, and has it served.
     fn begin<R: Wait + Clock>(
-        &self,
+        &mut self,
         rt: &R,
         slot: &Slot<K>,
         halves: Halves,
@@ -173,11 +137,21 @@ impl<'s, K: BookName + Send + Sync> Control<'s, K> {
         let state = self.state;
         let Halves { reading, writing } = halves;
         let fd = reading.source().descriptor();
-        state.wake_for(slot.lane.open(&state.delivery(rt), writing));
         // Under the lock, so that the connection isn't over before its socket is known.
         let mut talk = slot.talk.lock(rt);
-        talk.begin(state.alloc, reading, Some(peer));
+        let Some(mut side) = talk.lend_side() else {
+            return Err(self.lose());
+        };
+        let Some(leftover) = slot
+            .lane
+            .open(&state.delivery(rt), writing, &mut side, &mut self.pairing)
+        else {
+            return Err(self.lose());
+        };
+        talk.begin(state.alloc, side, reading, Some(peer));
+        state.wake_for(leftover);
         if let Err(error) = state.service.crews.begin(slot.lane.number(), fd) {
+            talk.cut(SessionEnd::NoThread);
             discard(&mut talk, Patience::Hurries);
             state.end(rt, slot, &mut talk);
             return Err(Rejection {
@@ -188,24 +162,46 @@ impl<'s, K: BookName + Send + Sync> Control<'s, K> {
         Ok(())
     }
 
-    /// Opens a slot for a connection from this address, at the control desk.
-    fn open_slot<R: Wait + Clock>(
-        &self,
+    /// Closes the slot of a connection that no thread can serve.
+    fn refuse<R: Wait + Clock>(
+        &mut self,
         rt: &R,
-        addr: &[u8],
-    ) -> Result<Option<Opened>, ApplyError> {
+        slot: &Slot<K>,
+        writing: LoggedWriter<Socket>,
+    ) -> Rejection
+        requires { (writing.bytes ≡ []) × (writing.answers ≡ []) }
+    {
+        // Modelled in models/endings.pml and shutdown.pml.
+        let mut talk = slot.talk.lock(rt);
+        let Some(mut side) = talk.lend_side() else {
+            return self.lose();
+        };
+        if !slot.lane.refuse(rt, writing, &mut side, &mut self.pairing) {
+            return self.lose();
+        }
+        self.state.refuse(rt, &mut talk, side);
+        Rejection::new(Trouble::Threads)
+    }
+
+    /// A slot has another connection still, or the two sides that it has are of two slots. It stays open in the book
+    /// then, so the server ends.
+    fn lose(&self) -> Rejection {
+        let progress = &self.state.progress;
+        progress.stage.rise(ServerStage::Failed as u8);
+        progress.connections.fetch_sub(1, Ordering::SeqCst);
+        Rejection::new(Trouble::Slots)
+    }
+
+    /// Opens a slot for a connection from this address, at the control desk.
+    fn open_slot<R: Wait + Clock>(&self, rt: &R, addr: &[u8]) -> Result<Option<u32>, ApplyError> {
         // Modelled in models/shutdown.pml.
         let mut desk = self.state.host.desk().lock(rt);
         self.state.open(rt, &mut desk, addr)
     }
 
-    /// Opens a slot for a connection. With I/O threads slots may be taken by connections that are gone, and that no thread has
-    /// visited yet: where there is no slot, the threads have a moment for that, and it is tried once more.
-    fn find_slot<R: Wait + Clock>(
-        &self,
-        rt: &R,
-        addr: &[u8],
-    ) -> Result<Option<Opened>, ApplyError> {
+    /// Opens a slot for a connection. With I/O threads slots may be taken by connections that are gone, and that no
+    /// thread has visited yet: where there is no slot, the threads have a moment for that, and it is tried once more.
+    fn find_slot<R: Wait + Clock>(&self, rt: &R, addr: &[u8]) -> Result<Option<u32>, ApplyError> {
         let opened = self.open_slot(rt, addr);
         if matches!(opened, Err(ApplyError::NoSlot)) && self.state.service.crews.are_few() {
             thread::sleep(rt, Duration::from_millis(VISITING_TIME_MS));
@@ -228,27 +224,23 @@ impl<'s, K: BookName + Send + Sync> Control<'s, K> {
         let ip = peer.ip();
         let addr = format!(in state.alloc; "{ip}")?;
         let halves = Halves::new(state.alloc, stream)?;
-        let opened = match self.find_slot(rt, addr.as_bytes()) {
-            Ok(Some(opened)) => opened,
+        let number = match self.find_slot(rt, addr.as_bytes()) {
+            Ok(Some(number)) => number,
             Err(ApplyError::Memory) => return Err(Rejection::new(Trouble::Memory)),
             _ => return Err(Rejection::new(Trouble::Slots)),
         };
-        let Some(slot) = state.slot(opened.slot()) else {
+        let Some(slot) = state.slot(number) else {
             return Err(Rejection::new(Trouble::Slots));
         };
-        let halves = halves.of_opening(opened);
         state.progress.connections.fetch_add(1, Ordering::SeqCst);
         if !crews::prepare(scope, rt, state, gate, slot) {
-            slot.lane.refuse(rt, halves.writing);
-            state.close(rt, &mut slot.talk.lock(rt));
-            return Err(Rejection::new(Trouble::Threads));
+            return Err(self.refuse(rt, slot, halves.writing));
         }
-        self.begin(rt, slot, halves, peer)?;
-        self.opened = self.opened.saturating_add(1);
-        Ok(())
+        self.begin(rt, slot, halves, peer)
     }
 
-    /// Takes a connection that came, unless it is gone, or refuses it, and has that said. After a graceful stop each is refused.
+    /// Takes a connection that came, unless it is gone, or refuses it, and has that said. After a graceful stop each is
+    /// refused.
     fn admit<E, R: Threads + Wait + Clock + Sync, G: Gate>(
         &mut self,
         scope: &Scope<'s, E>,
@@ -328,7 +320,8 @@ impl<'s, K: BookName + Send + Sync> Control<'s, K> {
         Ok(())
     }
 
-    /// Starts the threads that are there from the start, says that the server is ready, and takes connections until it can end.
+    /// Starts the threads that are there from the start, says that the server is ready, and takes connections until it
+    /// can end.
     fn serve<E, R: Threads + Wait + Clock + Sync, G: Gate>(
         &mut self,
         scope: &Scope<'s, E>,
@@ -346,7 +339,8 @@ impl<'s, K: BookName + Send + Sync> Control<'s, K> {
         self.take_all(scope, rt, gate, announcer)
     }
 
-    /// Serves until the server can end, and has each connection end that is left. It answers how many connections were opened.
+    /// Serves until the server can end, and has each connection end that is left. It hands out what pairs the sides of
+    /// slots.
     pub(crate) fn run<E, R: Threads + Wait + Clock + Sync, G: Gate>(
         mut self,
         scope: &Scope<'s, E>,
@@ -354,7 +348,7 @@ impl<'s, K: BookName + Send + Sync> Control<'s, K> {
         gate: &'s G,
         pollers: Vec<Poller>,
         announcer: &mut Announcer<'_, impl Write>,
-    ) -> Result<u64, ServeError> {
+    ) -> (Result<(), ServeError>, Pairing<K>) {
         // Modelled in models/shutdown.pml.
         let outcome = self.serve(scope, rt, gate, pollers, announcer);
         if outcome.is_err() {
@@ -362,7 +356,7 @@ impl<'s, K: BookName + Send + Sync> Control<'s, K> {
             wait_for_ends(rt, &self.state.progress);
         }
         crews::dismiss(rt, self.state);
-        outcome?;
-        Ok(self.opened)
+        let Control { pairing, .. } = self;
+        (outcome, pairing)
     }
 }

@@ -1,14 +1,15 @@
-//! The threads that serve connections: how they wait, and how they are woken. What they do then is one for both ways (`serving`).
+//! The threads that serve connections: how they wait, and how they are woken. What they do then is one for both ways
+//! (`serving`).
 
 use crate::state::ServerState;
 use crossbeam_utils::sync::{Parker, Unparker};
 use gm_delivery::{Deliverer, Finish, ServerStage};
 use gm_feeder::Patience;
 use gm_poll::{Hub, Poller};
-use gm_report::AGAIN_MS;
 use gm_session::Gate;
 use gm_shared::BookName;
 use gm_slots::Slot;
+use gm_time::AGAIN_MS;
 use std::alloc::{AllocError, Global};
 use std::io;
 use std::os::fd::RawFd;
@@ -102,7 +103,10 @@ impl Crews {
                 }
                 Ok(())
             }
-            Crews::Few(hub) => hub.register(slot, fd),
+            Crews::Few(hub) => {
+                hub.register(slot, fd)?;
+                Ok(())
+            }
         }
     }
 }
@@ -111,7 +115,7 @@ impl Crews {
 pub(crate) fn start<'s, E, K: BookName + Send + Sync, G: Gate, R: Threads + Wait + Clock + Sync>(
     scope: &Scope<'s, E>,
     rt: &'s R,
-    state: &'s ServerState<'s, K>,
+    state: &'s ServerState<K>,
     gate: &'s G,
     pollers: Vec<Poller>,
 ) -> bool {
@@ -133,7 +137,7 @@ pub(crate) fn start<'s, E, K: BookName + Send + Sync, G: Gate, R: Threads + Wait
 pub(crate) fn prepare<'s, E, K: BookName + Send + Sync, G: Gate, R: Threads + Wait + Clock + Sync>(
     scope: &Scope<'s, E>,
     rt: &'s R,
-    state: &'s ServerState<'s, K>,
+    state: &'s ServerState<K>,
     gate: &'s G,
     slot: &'s Slot<K>,
 ) -> bool {
@@ -166,7 +170,7 @@ pub(crate) fn prepare<'s, E, K: BookName + Send + Sync, G: Gate, R: Threads + Wa
 }
 
 /// Has all threads leave, which have no connection any more.
-pub(crate) fn dismiss<K: BookName>(rt: &impl Wait, state: &ServerState<'_, K>) {
+pub(crate) fn dismiss<K: BookName>(rt: &impl Wait, state: &ServerState<K>) {
     // Modelled in models/serving.h.
     state.progress.stage.rise(ServerStage::Ended as u8);
     state.service.crews.wake_all();
@@ -183,7 +187,7 @@ pub(crate) fn dismiss<K: BookName>(rt: &impl Wait, state: &ServerState<'_, K>) {
 /// Reads connection after connection of a slot, until none comes any more.
 fn run_reader<'s, K: BookName, G: Gate, R: Wait + Clock>(
     rt: &'s R,
-    state: &'s ServerState<'s, K>,
+    state: &'s ServerState<K>,
     gate: &G,
     slot: &Slot<K>,
     pair: &Pair,
@@ -204,17 +208,17 @@ fn run_reader<'s, K: BookName, G: Gate, R: Wait + Clock>(
 /// Does what others leave of a slot's lane, until no connection comes any more.
 fn run_finisher<'s, K: BookName, R: Wait + Clock>(
     rt: &'s R,
-    state: &'s ServerState<'s, K>,
+    state: &'s ServerState<K>,
     slot: &Slot<K>,
     pair: &Pair,
 ) {
     // Modelled in models/deliver.pml and serving.h.
     let parker = pair.parker.lock(rt);
-    let mut finish = Finish::Idle;
+    let mut finish = None;
     for _ in rt.forever() {
         match finish {
-            Finish::Pending => parker.park_timeout(rt, Duration::from_millis(AGAIN_MS)),
-            Finish::Idle | Finish::Again | Finish::Gone => parker.park(rt),
+            Some(Finish::Pending) => parker.park_timeout(rt, Duration::from_millis(AGAIN_MS)),
+            _ => parker.park(rt),
         }
         if state.progress.has_ended() {
             break;
@@ -227,7 +231,7 @@ fn run_finisher<'s, K: BookName, R: Wait + Clock>(
 /// Serves each slot once that is called, up to one whose turn was long.
 fn serve_round<'s, K: BookName, G: Gate, R: Wait + Clock>(
     rt: &'s R,
-    state: &'s ServerState<'s, K>,
+    state: &'s ServerState<K>,
     gate: &G,
     poller: &mut Poller,
 ) {
@@ -246,7 +250,7 @@ fn serve_round<'s, K: BookName, G: Gate, R: Wait + Clock>(
 /// Serves the slots of a thread that has many, until no connection comes any more.
 fn run_few<'s, K: BookName, G: Gate, R: Wait + Clock>(
     rt: &'s R,
-    state: &'s ServerState<'s, K>,
+    state: &'s ServerState<K>,
     gate: &G,
     hub: &Hub,
     poller: Poller,

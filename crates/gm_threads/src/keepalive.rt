@@ -24,8 +24,8 @@ struct Questions {
     count: u16,
 }
 
-/// When to ask a silent peer, so that one that vanished is found out after this time: halfway through it, and then after each twelfth
-/// of it. Below two seconds it is as with two.
+/// When to ask a silent peer, so that one that vanished is found out after this time: halfway through it, and then
+/// after each twelfth of it. Below two seconds it is as with two.
 fn questions_for(seconds: u16) -> Questions
     ensures idle { 1 ≤ result.idle }
     ensures interval { 1 ≤ result.interval }
@@ -50,7 +50,7 @@ fn questions_for(seconds: u16) -> Questions
     }
 }
 
-/// Sets an option of a socket. Where the system doesn't, a peer that vanished is found out by what is sent to it.
+/// Sets an option of a socket. If the system doesn't, a peer that vanished is found out by what is sent to it.
 fn set(stream: &TcpStream, level: i32, name: i32, value: i32)
     requires { SockOption level name }
 {
@@ -60,8 +60,8 @@ fn set(stream: &TcpStream, level: i32, name: i32, value: i32)
     let _status = unsafe { setsockopt(stream.as_raw_fd(), level, name, &bytes, 4) };
 }
 
-/// Has the system find out after about this time that a peer vanished, whether it was silent or bytes are on their way to it
-/// (tcp(7), "SO_KEEPALIVE" and "TCP_USER_TIMEOUT"). 0 leaves the times to the system.
+/// Has the system find out after about this time that a peer vanished, whether it was silent or bytes are on their way
+/// to it (tcp(7), "SO_KEEPALIVE" and "TCP_USER_TIMEOUT"). 0 leaves the times to the system.
 pub(crate) fn set_peer_timeout(stream: &TcpStream, seconds: u16) {
     if seconds > 0 {
         let Questions {

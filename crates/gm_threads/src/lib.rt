@@ -1,9 +1,10 @@
-//! A job server over sockets: the threads that take connections, read them (gm_session) and deliver to them (gm_delivery).
+//! A job server over sockets: the threads that take connections, read them (gm_session) and deliver to them
+//! (gm_delivery).
 //!
-//! A connection has two threads. Its reader cuts what it reads into units and hands them to the book; its finisher waits until others
-//! leave it something: a slow peer, or the connection's end. A thread that queued something for a connection touches its lane, and sends
-//! it, unless another thread has the lane, which then tries again. With I/O threads few threads do both for all connections, and wait at
-//! gm_poll.
+//! A connection has two threads. Its reader cuts what it reads into units and hands them to the book; its finisher
+//! waits until others leave it something: a slow peer, or the connection's end. A thread that queued something for a
+//! connection touches its lane, and sends it, unless another thread has the lane, which then tries again. With I/O
+//! threads few threads do both for all connections, and wait at gm_poll.
 #![tactic(auto)]
 
 mod accepting;

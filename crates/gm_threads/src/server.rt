@@ -12,7 +12,7 @@ use gm_feeder::Limits;
 use gm_poll::Poller;
 use gm_report::{Announcer, Levels, ServeError, Speaker};
 use gm_session::Gate;
-use gm_shared::{Blank, BookName, TapeMode};
+use gm_shared::{Blank, BlankPairing, BookName, Pairing, TapeMode};
 use gm_slots::Served;
 use std::alloc::Global;
 use std::hash::RandomState;
@@ -24,15 +24,16 @@ use std::thread::Threads;
 use std::time::Clock;
 use std::{io, thread};
 
-/// Runs the control thread, and answers how many connections were opened. All other threads have ended then.
+/// Runs the control thread, and hands out what pairs the sides of slots. All other threads have ended then.
 fn run_control<'x, K: BookName + Send + Sync, R: Threads + Wait + Clock + Sync, G: Gate, W: Write>(
     rt: &'x R,
-    state: &'x ServerState<'x, K>,
+    state: &'x ServerState<K>,
+    pairing: Pairing<K>,
     pollers: Vec<Poller>,
     gate: &'x G,
     announcer: &'x mut Announcer<'_, W>,
-) -> Result<u64, ServeError> {
-    let control = Control::new(state);
+) -> (Result<(), ServeError>, Pairing<K>) {
+    let control = Control::new(state, pairing);
     thread::scope(
         thread::scope_env(),
         rt,
@@ -54,8 +55,8 @@ pub struct Service {
     pub listener: TcpListener,
     /// How large a unit may be.
     pub limits: Limits,
-    /// After about how many seconds, up to 32,767, a peer is disconnected that vanished or leaves what was sent to it unread; at 0
-    /// the system decides.
+    /// After about how many seconds, up to 32,767, a peer is disconnected that vanished or leaves what was sent to it
+    /// unread; at 0 the system decides.
     pub peer_timeout: u16,
     /// What the threads wait at that serve connections.
     pub crews: Crews,
@@ -76,7 +77,8 @@ pub(crate) fn serve_book<
     rt: &R,
     alloc: Global,
     blank: Blank,
-    service: &Service,
+    sockets: BlankPairing,
+    service: Service,
     pollers: Vec<Poller>,
     gate: &G,
     announcer: &mut Announcer<'_, W>,
@@ -85,21 +87,24 @@ pub(crate) fn serve_book<
     requires history { blank.history ≡ K.history }
     requires settings { blank.settings ≡ K.settings }
     requires taped { blank.taped ≡ K.taped }
-    ensures { IfOk result (λ served. SettledSo K.settings K.taped service.now.limits K.history served.book served.accounts.items) }
+    requires sockets { sockets ≡ K.sockets }
+    ensures { IfOk result (λ served. SettledSo K.settings K.taped service.limits K.history served.book served.accounts.items) }
 {
-    let state = ServerState::<K>::new(rt, alloc, blank, service)?;
-    let connections = run_control(rt, &state, pollers, gate, announcer)?;
-    Ok(state.settle(connections)?)
+    let (state, pairing) = ServerState::<K>::new(rt, alloc, blank, sockets, service)?;
+    let (outcome, pairing) = run_control(rt, &state, pairing, pollers, gate, announcer);
+    outcome?;
+    Ok(state.settle(pairing)?)
 }
 
 /// Serves the connections that a listener takes, until one of them asks for a shutdown (the Gearman PROTOCOL document,
-/// "Administrative Protocol") and all are closed. Names and ids come from strangers, so the book's tables hash with this
-/// seed. Each unit passes the gate. Where the settings ask for a tape, every accepted call is kept on it, and in the end
-/// it is compared with what each connection's desk and pen were told.
+/// "Administrative Protocol") and all are closed. Names and ids come from strangers, so the book's tables hash with
+/// this seed. Each unit passes the gate. If the settings ask for a tape, every accepted call is kept on it, and in
+/// the end it is compared with what each connection's desk and pen were told.
 ///
 /// `Memory` comes if there is no memory for the book or for its end, and with a tape if there is none to enter the end
-/// of a connection, which stops the server; `Differs` where the tape differs from what was told, a slot is still open, or an account lacks
-/// an opening or has other limits; `Listen` where the listener fails. With a tape it answers `Ok` exactly where the two agree.
+/// of a connection, which stops the server; `Differs` where the tape differs from what was told, a slot is still open,
+/// or an account lacks an opening or has other limits; `Listen` where the listener fails. With a tape it answers `Ok`
+/// exactly where the two agree.
 pub fn serve<R: Threads + Wait + Clock + Eprint + Copy + Send + Sync + 'static, G: Gate>(
     rt: &R,
     alloc: Global,
@@ -133,8 +138,8 @@ pub fn serve<R: Threads + Wait + Clock + Eprint + Copy + Send + Sync + 'static, 
     }
 }
 
-/// As `serve`, with a service that is made already, and with the pollers of the threads that are there from the start. The announcer
-/// tells how the server is.
+/// As `serve`, with a service that is made already, and with the pollers of the threads that are there from the start.
+/// The announcer tells how the server is.
 pub fn serve_with<R: Threads + Wait + Clock + Sync, G: Gate, W: Write>(
     rt: &R,
     alloc: Global,
@@ -151,5 +156,6 @@ pub fn serve_with<R: Threads + Wait + Clock + Sync, G: Gate, W: Write>(
         return Err(ServeError::Listen);
     };
     let blank = Blank::new(alloc, service.seed, config, mode(tape))?;
-    serve_book::<Brand, R, G, W>(rt, alloc, blank, &service, pollers, gate, announcer)
+    let sockets = BlankPairing::new(alloc)?;
+    serve_book::<Brand, R, G, W>(rt, alloc, blank, sockets, service, pollers, gate, announcer)
 }

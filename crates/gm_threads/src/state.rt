@@ -1,6 +1,6 @@
 //! What all threads of a server share.
 
-ghost use Rattle.std.specs.Prelude.{◌≡◌, ◌<◌, ◌≤◌, All, [], IfSome, IfNone, IfOk, map};
+ghost use Rattle.std.specs.Prelude.{◌≡◌, ◌<◌, ◌≤◌, Option, All, [], IfSome, IfNone, IfOk, map};
 ghost use Rattle.gm_shared.specs.Shared.{numbers_below};
 ghost use Rattle.gm_session.specs.Effects.{IsNothing};
 ghost use Rattle.gm_session.specs.Owners.{Opens};
@@ -11,19 +11,19 @@ use crate::server::Service;
 use gm_delivery::{DeliveryContext, Finish, Leftover, ServerStage};
 use gm_lane_word::Due;
 use gm_notes::{ApplyError, Mode};
-use gm_report::{DELIVERING_TIME_MS, has_passed};
-use gm_session::{Effects, Host, Opened, OwnDesk};
-use gm_shared::{Blank, BookName, Shared};
+use gm_session::{Effects, Host, OwnDesk};
+use gm_shared::{Blank, BlankPairing, BookName, Pairing, Shared};
 use gm_slots::{Served, Slot, open_slots, settle_slots};
+use gm_time::{DELIVERING_TIME_MS, has_passed};
 use std::alloc::{AllocError, Global};
 use std::sync::{Arc, Wait};
 use std::time::{Clock, Duration};
 
 /// What all threads of a server share.
 #[derive(Drop)]
-pub(crate) struct ServerState<'s, K: BookName> {
+pub(crate) struct ServerState<K: BookName> {
     pub(crate) alloc: Global,
-    pub(crate) service: &'s Service,
+    pub(crate) service: Service,
     pub(crate) shared: Shared<K>,
     pub(crate) slots: Vec<Slot<K>>,
     // How many slots the book has.
@@ -35,24 +35,27 @@ pub(crate) struct ServerState<'s, K: BookName> {
     ghost numbered: { map (λ slot. slot.lane.slot) slots.items ≡ numbers_below slot_count },
 }
 
-impl<'s, K: BookName> ServerState<'s, K> {
-    /// Opens a book, for the threads of a new server.
+impl<K: BookName> ServerState<K> {
+    /// Opens a book, for the threads of a new server, and what pairs the sides of its slots. The server takes the
+    /// service, so that no other book serves its connections.
     pub(crate) fn new(
         rt: &impl Clock,
         alloc: Global,
         blank: Blank,
-        service: &'s Service,
-    ) -> Result<ServerState<'s, K>, AllocError>
+        sockets: BlankPairing,
+        service: Service,
+    ) -> Result<(ServerState<K>, Pairing<K>), AllocError>
         requires table { blank.table ≡ K.table }
         requires history { blank.history ≡ K.history }
         requires settings { blank.settings ≡ K.settings }
         requires taped { blank.taped ≡ K.taped }
-        ensures { IfOk result (λ state. state.service.now.limits ≡ service.now.limits) }
+        requires sockets { sockets ≡ K.sockets }
+        ensures { IfOk result (λ made. made.0.service.limits ≡ service.limits) }
     {
         let slot_count = blank.slots();
         let speaker = Arc::try_clone(&service.speaker)?;
-        let (shared, slots, control) = open_slots(alloc, blank, service.limits)?;
-        Ok(ServerState {
+        let (shared, slots, control, pairing) = open_slots(alloc, blank, sockets, service.limits)?;
+        let state = ServerState {
             alloc,
             service,
             shared,
@@ -60,13 +63,14 @@ impl<'s, K: BookName> ServerState<'s, K> {
             slot_count,
             host: Host::new(rt, control, speaker),
             progress: Progress::new(),
-        })
+        };
+        Ok((state, pairing))
     }
 
-    /// Ends the book and compares it with what the desks and pens were told. No thread has a part of the server any more, and this many
-    /// connections were opened.
-    pub(crate) fn settle(self, connections: u64) -> Result<Served, AllocError>
-        ensures { IfOk result (λ served. SettledSo K.settings K.taped self.entry.service.now.limits K.history served.book served.accounts.items) }
+    /// Ends the book and compares it with what the desks and pens were told. No thread has a part of the server any
+    /// more.
+    pub(crate) fn settle(self, pairing: Pairing<K>) -> Result<Served, AllocError>
+        ensures { IfOk result (λ served. SettledSo K.settings K.taped self.service.limits K.history served.book served.accounts.items) }
     {
         let ServerState {
             alloc,
@@ -83,8 +87,8 @@ impl<'s, K: BookName> ServerState<'s, K> {
             slots,
             slot_count,
             host.into_desk(),
+            pairing,
             service.limits,
-            connections,
         )
     }
 
@@ -118,7 +122,8 @@ impl<'s, K: BookName> ServerState<'s, K> {
         }
     }
 
-    /// Delivers to a slot that has something due, unless another thread does; or leaves that to its finisher, where it is late.
+    /// Delivers to a slot that has something due, unless another thread does; or leaves that to its finisher, where it
+    /// is late.
     fn touch<R: Wait + Clock>(&self, context: &DeliveryContext<'_, K, R>, due: Due, is_late: bool)
         requires { due.slot < K.settings.slots }
     {
@@ -144,16 +149,16 @@ impl<'s, K: BookName> ServerState<'s, K> {
         }
     }
 
-    /// Has a lane's finisher woken, if that is left to do, and says what came of the delivery.
+    /// Has a lane's finisher woken, if that is left to do, and says what the delivery left to do.
     #[inline(always)]
-    pub(crate) fn wake_for(&self, leftover: Leftover) -> Finish {
+    pub(crate) fn wake_for(&self, leftover: Leftover) -> Option<Finish> {
         // Modelled in models/lane.h.
         leftover.settle(|slot| self.service.crews.wake(slot))
     }
 
-    /// Notifies others of what came of events, with the book's lock let go: touches the lane of each touched slot, and delivers where
-    /// nobody else does, until the time is over; then it has the finishers do so. The slot whose connection's events they were is
-    /// answered first: there may be a thousand others.
+    /// Notifies others of what came of events, with the book's lock let go: touches the lane of each touched slot, and
+    /// delivers where nobody else does, until the time is over; then it has the finishers do so. The slot whose
+    /// connection's events they were is answered first: there may be a thousand others.
     pub(crate) fn notify<R: Wait + Clock>(&self, rt: &R, own: Option<u32>, effects: &mut Effects<K>)
         ensures { IsNothing effects.new }
     {
@@ -182,7 +187,7 @@ impl<'s, K: BookName> ServerState<'s, K> {
         rt: &R,
         desk: &mut OwnDesk<K>,
         addr: &[u8],
-    ) -> Result<Option<Opened>, ApplyError>
+    ) -> Result<Option<u32>, ApplyError>
         ensures opens { Opens K.settings K.taped desk.old.desk.number addr.now result desk.old.desk.witness.seen desk.new.desk.witness.seen }
         ensures number { desk.new.desk.number ≡ desk.old.desk.number }
     {

@@ -24,7 +24,7 @@ pub enum TrialError {
     /// Growths are refused without end.
     #[error("growths without end")]
     Endless,
-    /// Where this growth of a piece was refused, the piece wasn't cut as it is to be.
+    /// If this growth of a piece was refused, the piece wasn't cut as it is to be.
     #[error("growth {growth}: not cut as it is to be")]
     NotCut {
         growth: u32,

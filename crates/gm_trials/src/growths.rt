@@ -20,8 +20,8 @@ const ASKED: usize = 1 << 47;
 /// Room for all that is seen, so that none is made while growths are refused.
 const ROOM: usize = 1 << 20;
 
-/// From now on the growth of this number is refused, or with 0 none is. With 0 it answers whether one was refused since it
-/// was asked last for one.
+/// From now on the growth of this number is refused, or with 0 none is. With 0 it answers whether one was refused since
+/// it was asked last for one.
 fn refuse(alloc: Global, number: u32) -> bool {
     Vec::<u8>::with_capacity(alloc, ASKED + number as usize).is_ok()
 }
@@ -100,8 +100,8 @@ fn hand_in_taken<S: JobServer>(
     see(front, first_job, seen)
 }
 
-/// Where this growth is refused, a front of the one server does as a front of the other that has memory and was handed in
-/// only what the first took. It answers whether there is such a growth.
+/// If this growth is refused, a front of the one server does as a front of the other that has memory and was handed
+/// in only what the first took. It answers whether there is such a growth.
 fn is_refused<S: TrialServer, R: TrialServer>(
     alloc: Global,
     growth: u32,
@@ -155,7 +155,7 @@ fn is_cut_after<S: JobServer>(front: &mut Front<S>, units: u64) -> bool {
     is_closed && units <= 2 && (1..=3).all(|job| front.place(job) == wanted(job))
 }
 
-/// Where this growth of a piece is refused, the piece is cut. It answers whether there is such a growth.
+/// If this growth of a piece is refused, the piece is cut. It answers whether there is such a growth.
 fn is_cut<S: TrialServer>(
     alloc: Global,
     growth: u32,

@@ -1,5 +1,5 @@
-//! Tries the feeder and the front with the inputs of a script, which is read from standard input: its lines are those that
-//! gm_play reads. It prints how often it tried, or says on standard error what went wrong.
+//! Tries the feeder and the front with the inputs of a script, which is read from standard input: its lines are those
+//! that gm_play reads. It prints how often it tried, or says on standard error what went wrong.
 #![tactic(auto)]
 
 mod error;
@@ -61,7 +61,7 @@ fn main(rt: HostRuntime) -> ExitCode {
     match run(&rt) {
         Ok(()) => ExitCode::SUCCESS,
         Err(error) => {
-            // Where standard error fails too, there is nobody left to tell.
+            // If standard error fails too, there is nobody left to tell.
             let _ = eprintln!(rt; "gm_trials: {error}");
             ExitCode::FAILURE
         }

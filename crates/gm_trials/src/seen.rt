@@ -78,8 +78,8 @@ pub fn see<S: JobServer>(
     see_jobs(front, first_job, seen)
 }
 
-/// Hands in an input, and once more where it is refused for memory, and writes what comes of it. It answers how many units
-/// came before a cut.
+/// Hands in an input, and once more where it is refused for memory, and writes what comes of it. It answers how many
+/// units came before a cut.
 pub fn hand_in<S: JobServer>(
     front: &mut Front<S>,
     input: Input<'_>,

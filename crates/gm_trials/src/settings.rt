@@ -37,8 +37,8 @@ where
 }
 
 impl Settings {
-    /// The settings that these numbers say: the first job's, those of slots and functions, whether functions take turns, to
-    /// how many workers a job is given, and whether requests mean what gearmand's applications mean by them.
+    /// The settings that these numbers say: the first job's, those of slots and functions, whether functions take
+    /// turns, to how many workers a job is given, and whether requests mean what gearmand's applications mean by them.
     pub fn parse(seed: RandomState, numbers: &[&str]) -> Result<Settings, TrialError> {
         let [first_job, slots, functions, turns, retries, as_gearmand] = numbers else {
             return Err(TrialError::Usage);
@@ -68,7 +68,8 @@ impl Settings {
     }
 }
 
-/// A server that a trial begins with. Trials take any, so that their proofs don't spell out how the tables of each are dropped.
+/// A server that a trial begins with. Trials take any, so that their proofs don't spell out how the tables of each are
+/// dropped.
 pub trait TrialServer: JobServer + Drop {
     /// A server to which nothing has happened.
     fn with_settings(alloc: Global, settings: &Settings) -> Result<Self, TrialError>;

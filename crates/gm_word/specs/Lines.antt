@@ -18,8 +18,8 @@ owing word = if word == 2 then 1 else 0
 abbrev pub fresh_line : Line
 fresh_line = record { phase = Awake; wakes = 0; entered = 0; withdrawals = 0; looks = 0 }
 
--- What a slot's word, the book's line and the takes of its pen agree on. Each wake became one take, or one withdrawal, or is
--- still owed, and the book has entered each of these except a take that it hasn't looked for yet.
+-- What a slot's word, the book's line and the takes of its pen agree on. Each wake became one take, or one withdrawal,
+-- or is still owed, and the book has entered each of these except a take that it hasn't looked for yet.
 pub record Agrees (word : ℕ) (line : Line) (takes : ℕ) : Type 0 where
   pub small : word < 3
   pub phase : (word ≡ number line.phase) ⊎ ((line.phase ≡ Owed) × (word ≡ 0))

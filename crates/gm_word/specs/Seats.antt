@@ -45,8 +45,8 @@ looked_at other slot book = book
 abbrev pub looked : ℕ → BookState → BookState
 looked slot book = looked_at (line_at slot book.lines).phase slot book
 
--- How a table ends: steps of the eight kinds alone have led to its last words; these, the book's lines and the takes of each slot
--- agree; and the takes are what the pens that were given back have counted.
+-- How a table ends: steps of the eight kinds alone have led to its last words; these, the book's lines and the takes of
+-- each slot agree; and the takes are what the pens that were given back have counted.
 pub record Settles (words : List ℕ) (lines : List Line) (pens : List PenState) : Type 0 where
   pub views : List WordView
   pub reached : Reached words views

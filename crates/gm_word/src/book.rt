@@ -121,8 +121,8 @@ impl BookSeat {
         found == OWED
     }
 
-    /// Whether the NOOP that the slot is owed was taken; the slot is awake then. False where it is owed none, or the word
-    /// says that it is still owed.
+    /// Whether the NOOP that the slot is owed was taken; the slot is awake then. False where it is owed none, or the
+    /// word says that it is still owed.
     pub fn look(&mut self, table: &SleepTable, slot: u32) -> bool
         requires table { self.old.table ≡ table.now }
         requires slot { slot < length self.old.lines }

@@ -7,8 +7,8 @@ use std::fs::File;
 use std::os::fd::AsRawFd;
 use std::process::ExitCode;
 
-/// Opens the null device in place of each standard stream that is closed, until this is dropped. A connection would get the
-/// stream's number otherwise, and a client would read what is written to standard error.
+/// Opens the null device in place of each standard stream that is closed, until this is dropped. A connection would get
+/// the stream's number otherwise, and a client would read what is written to standard error.
 fn replace_closed_streams(rt: &HostRuntime) -> [Option<File>; 3] {
     let mut opened = [None, None, None];
     for place in &mut opened {
@@ -26,7 +26,7 @@ fn main(rt: HostRuntime) -> ExitCode {
         Ok(words) => ExitCode::from(run_words(&rt, &words, &mut rt.stdout())),
         Err(error) => {
             let text = error.text();
-            // Where standard error fails too, there is nobody left to tell.
+            // If standard error fails too, there is nobody left to tell.
             let _ = eprintln!(rt; "gmd: {text}");
             ExitCode::from(error.status())
         }

@@ -32,8 +32,8 @@ impl Conns {
         self.touched.insert(slot);
     }
 
-    /// The head and the tail wait for the connection, behind the others, in reserved room: the tail, which is shared, takes
-    /// `SHARED_ROOM` of it.
+    /// The head and the tail wait for the connection, behind the others, in reserved room: the tail, which is shared,
+    /// takes `SHARED_ROOM` of it.
     pub fn put_shared(&mut self, slot: u32, head: &[u8], tail: SharedBytes)
         requires open { IsOpen self.old slot }
         requires room { length head.now + 512 ≤ (conn self.old slot).room }

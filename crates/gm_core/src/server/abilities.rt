@@ -30,7 +30,8 @@ pub(super) struct Choice {
 impl Tables {
     ghost use Rattle.gm_core.specs.Holds.{IsKept, Keeps, Goes, Does};
 
-    /// How many of a slot's `len` abilities are tried last: where functions take turns, those up to the one of its last job.
+    /// How many of a slot's `len` abilities are tried last: where functions take turns, those up to the one of its last
+    /// job.
     fn tried_last(&self, slot: u32, len: usize) -> usize
         requires open { IsOpen self.now.conns slot }
         requires len { len ≡ length (conn self.now.conns slot).abilities }

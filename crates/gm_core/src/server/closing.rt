@@ -30,9 +30,9 @@ impl Tables {
         self.functions.forget(ended.f(), ended.p(), job);
     }
 
-    /// A job that runs at a slot waits again, as the last, and the sleeping workers that can do it are owed a NOOP; or it is lost
-    /// if that was its last try, and keeps the place that is reserved for it at its queue; or it is discarded if nobody wants it.
-    /// It needs no memory.
+    /// A job that runs at a slot waits again, as the last, and the sleeping workers that can do it are owed a NOOP; or
+    /// it is lost if that was its last try, and keeps the place that is reserved for it at its queue; or it is
+    /// discarded if nobody wants it. It needs no memory.
     fn give_back_one(&mut self, slot: u32, job: u64)
         requires runs { passes (is_run_by slot) (jobs.job self.old.jobs job) ≡ true }
         requires kept { IsKept self.old }

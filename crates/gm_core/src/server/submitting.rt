@@ -135,8 +135,8 @@ impl Tables {
         }
     }
 
-    /// A job is made, which comes to wait, if there is a number and memory for it. The vacancy is that of the function and its
-    /// unique id.
+    /// A job is made, which comes to wait, if there is a number and memory for it. The vacancy is that of the function
+    /// and its unique id.
     fn make(
         &mut self,
         slot: u32,

@@ -82,8 +82,8 @@ impl Tables {
         Ok(lates)
     }
 
-    /// A running job whose deadline is reached has failed: its listeners get WORK_FAIL, and its worker nothing. It needs
-    /// no memory.
+    /// A running job whose deadline is reached has failed: its listeners get WORK_FAIL, and its worker nothing. It
+    /// needs no memory.
     fn expire(&mut self, mut late: Late)
         requires kept { IsKept self.old }
         requires due { passes (is_due self.old.moment) (job_of self.old.jobs late.job) ≡ true }
@@ -111,8 +111,8 @@ impl Tables {
         }
     }
 
-    /// It is now this many seconds; a clock that goes back counts as standing still. The jobs whose deadlines are reached
-    /// have failed.
+    /// It is now this many seconds; a clock that goes back counts as standing still. The jobs whose deadlines are
+    /// reached have failed.
     pub(super) fn tick(&mut self, now: u64) -> Result<Done, ApplyError>
         requires { IsKept self.old }
         ensures answers { (k : Settings) (steps : List Step) → CoreAgrees self.old k steps

@@ -17,8 +17,8 @@ use crate::jobs::{count_made, is_last_try, is_wanted, job_at, place};
 use gm_notes::{ApplyError, Done, Note};
 
 impl PlainServer {
-    /// The connection in a slot closes, and what waited for it is dropped; its jobs wait again, are lost, or go too. It needs
-    /// no memory.
+    /// The connection in a slot closes, and what waited for it is dropped; its jobs wait again, are lost, or go too. It
+    /// needs no memory.
     pub(super) fn close(&mut self, slot: u32) -> Result<Done, ApplyError>
         ensures answers { (k : Settings) (steps : List Step) → PlainAgrees self.old k steps
             → Answers k steps (Close slot) result × PlainAgrees self.new k (steps_after result (Close slot) steps) }

@@ -98,8 +98,8 @@ impl PlainServer {
         Ok(())
     }
 
-    /// The listeners of a job are told what its worker says; where only some of them get that, and the job ends, the others are
-    /// told that it failed. Out of memory, it changes nothing.
+    /// The listeners of a job are told what its worker says; where only some of them get that, and the job ends, the
+    /// others are told that it failed. Out of memory, it changes nothing.
     fn tell_listeners(&mut self, job: u64, packet: &WorkPacket<'_>) -> Result<(), AllocError>
         requires fits { WorkFits packet.now }
         ensures does { Does self.old result self.new (tell_listeners self.old.config (work_of self.old.config packet.now) job) }

@@ -1,4 +1,4 @@
-use Rattle.gm_promise.proofs.Lives.{are_served}
+use Rattle.gm_slots.proofs.Lives.{are_served}
 use Rattle.gm_promise.proofs.laws.connections_are_served.Goals as goal
 
 pub returns : goal.returns

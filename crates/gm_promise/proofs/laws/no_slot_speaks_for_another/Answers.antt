@@ -1,4 +1,4 @@
-use Rattle.gm_promise.proofs.Owning.{said_own, drain_own}
+use Rattle.gm_slots.proofs.Owning.{said_own, drain_own}
 use Rattle.gm_promise.proofs.laws.no_slot_speaks_for_another.Goals as goal
 
 pub returns : goal.returns

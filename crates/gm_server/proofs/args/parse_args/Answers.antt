@@ -1,8 +1,8 @@
-use Rattle.std.proofs.Common.{◌≡◌, ◌∙◌, ap, sym, subst, map, codes, [], unwrap_or}
+use Rattle.std.proofs.Common.{◌≡◌, ◌∙◌, ◌||◌, ap, sym, subst, map, codes, [], unwrap_or}
 use Rattle.clap.specs.Words.{fault_of, HasKind}
-use Rattle.gm_options.specs.Options.{ReadsNumber, ReadsFlag}
+use Rattle.gm_options.specs.Options.{ReadsNumber, is_given}
 use Rattle.gm_server.specs.Options.{fault_in}
-use Rattle.gm_server.proofs.Options.{known, rows, text_of, first_text_of, flag, failing, text_or}
+use Rattle.gm_server.proofs.Options.{known, rows, text_of, first_text_of, failing, text_or}
 use Rattle.gm_server.proofs.args.parse_args.Goals as goal
 
 pub returns-in_err-matches-clause-kinds : goal.returns-in_err-matches-clause-kinds
@@ -21,11 +21,20 @@ returns-clause-reads g c =
     let read = c.server_options.result in
     let options = c.server_options.ensures in
     record {
-      name = text_or c.get_str-2.result _ c.unwrap_or-3.result c.unwrap_or-3.ensures ∙ ap (λ text. unwrap_or text (codes "gmd")) (c.get_str-2.ensures ∙ first_text_of words c.in_ok-matches.matches same (codes "name"));
-      slots = subst (λ text. ReadsNumber text 64 read.slots) (at (codes "slots")) options.slots;
-      round_robin = subst (λ text. ReadsFlag text read.round_robin) (at (codes "round-robin")) options.round_robin;
-      job_retries = subst (λ text. ReadsNumber text 0 read.job_retries) (at (codes "job-retries")) options.job_retries;
-      as_gearmand = subst (λ text. ReadsFlag text read.as_gearmand) (at (codes "as-gearmand")) options.as_gearmand;
-      check = subst (λ text. ReadsFlag text c.get_flag.result) (at (codes "check")) (flag _ _ c.get_flag.ensures.none c.get_flag.ensures.value c.get_flag.ensures.other);
-      tape = subst (λ text. ReadsFlag text c.get_flag-2.result) (at (codes "tape")) (flag _ _ c.get_flag-2.ensures.none c.get_flag-2.ensures.value c.get_flag-2.ensures.other);
+      port = subst (λ text. ReadsNumber 16 text 4730 c.short_number.result) (at (codes "port")) c.short_number.ensures;
+      listen = text_or c.get_str.result _ c.unwrap_or.result c.unwrap_or.ensures ∙ ap (λ text. unwrap_or text (codes "0.0.0.0")) (c.get_str.ensures ∙ first_text_of words c.in_ok-matches.matches same (codes "listen"));
+      has_address = c.is_either_given.ensures ∙ ap (λ found. is_given (codes "port") found || is_given (codes "listen") found) same;
+      name = text_or c.get_str-2.result _ c.unwrap_or-2.result c.unwrap_or-2.ensures ∙ ap (λ text. unwrap_or text (codes "gmd")) (c.get_str-2.ensures ∙ first_text_of words c.in_ok-matches.matches same (codes "name"));
+      slots = subst (λ text. ReadsNumber 32 text 64 read.slots) (at (codes "slots")) options.slots;
+      max_data = (options.max_data.0, subst (λ text. ReadsNumber 32 text 67108864 options.max_data.0) (at (codes "max-data")) options.max_data.1, options.max_data.2);
+      max_line = options.max_line;
+      round_robin = options.round_robin ∙ ap (is_given (codes "round-robin")) same;
+      job_retries = subst (λ text. ReadsNumber 32 text 0 read.job_retries) (at (codes "job-retries")) options.job_retries;
+      as_gearmand = options.as_gearmand ∙ ap (is_given (codes "as-gearmand")) same;
+      peer_timeout = subst (λ text. ReadsNumber 16 text 120 c.short_number-2.result) (at (codes "peer-timeout")) c.short_number-2.ensures;
+      has_peer_timeout = c.is_given.ensures ∙ ap (is_given (codes "peer-timeout")) same;
+      io_threads = subst (λ text. ReadsNumber 16 text 0 c.short_number-3.result) (at (codes "io-threads")) c.short_number-3.ensures;
+      has_io_threads = c.is_given-2.ensures ∙ ap (is_given (codes "io-threads")) same;
+      check = c.is_given-3.ensures ∙ ap (is_given (codes "check")) same;
+      tape = c.is_given-4.ensures ∙ ap (is_given (codes "tape")) same;
     }

@@ -1,6 +1,6 @@
 use Rattle.gm_session.specs.Owners.{SaysOwn}
-use Rattle.gm_promise.proofs.Owning.{all_then, one_more}
-use Rattle.gm_promise.proofs.Accounted.{account_pushed, desk_pushed, longer}
+use Rattle.gm_slots.proofs.Owning.{all_then, one_more}
+use Rattle.gm_slots.proofs.Accounted.{account_pushed, desk_pushed, longer}
 use Rattle.gm_slots.proofs.ending.all_parts.Goals as goal
 
 pub loop-slot-preserved : goal.loop-slot-preserved

@@ -1,6 +1,6 @@
 use Rattle.std.proofs.Common.{◌≡◌, ◌+◌, All, length, map}
 use Rattle.gm_session.specs.Owners.{SaysOwn}
-use Rattle.gm_promise.specs.Accounts.{AreAccounts}
+use Rattle.gm_slots.specs.Accounts.{AreAccounts}
 use Rattle.gm_slots.proofs.ending.all_parts.Given as goal
 
 abbrev pub invariant-loop-slot : goal.invariant-loop-slot

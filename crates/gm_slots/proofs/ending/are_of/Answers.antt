@@ -1,5 +1,5 @@
 use Rattle.std.proofs.Common.{sym}
-use Rattle.gm_promise.proofs.Owning.{next_share, alike_next, not_alike}
+use Rattle.gm_slots.proofs.Owning.{next_share, alike_next, not_alike}
 use Rattle.gm_slots.proofs.ending.are_of.Goals as goal
 
 pub returns-then-not-is : goal.returns-then-not-is

@@ -1,5 +1,5 @@
 use Rattle.std.proofs.Common.{drop}
-use Rattle.gm_promise.proofs.Owning.{Alike}
+use Rattle.gm_slots.proofs.Owning.{Alike}
 use Rattle.gm_slots.proofs.ending.are_of.Given as goal
 
 abbrev pub invariant-loop-share : goal.invariant-loop-share

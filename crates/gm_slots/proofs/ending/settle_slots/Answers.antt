@@ -4,13 +4,13 @@ use Rattle.gm_shared.specs.Tapes.{AddUp, steps_of}
 use Rattle.gm_shared.specs.Books.{takings}
 use Rattle.gm_shared.specs.Shared.{everybody, TookThose}
 use Rattle.gm_core.specs.Holds.{CoreAgrees}
-use Rattle.gm_promise.specs.Owners.{AreOwn}
-use Rattle.gm_promise.specs.declared.account.Account.{Account}
-use Rattle.gm_promise.specs.Accounts.{AreCounted}
+use Rattle.gm_slots.specs.Owners.{AreOwn}
+use Rattle.gm_slots.specs.declared.account.Account.{Account}
+use Rattle.gm_slots.specs.Accounts.{AreCounted}
 use Rattle.gm_slots.specs.Served.{HasEverybody, AllClosed, IsWhole, SettledSo}
-use Rattle.gm_promise.proofs.Owning.{ended_own, each_mapped}
+use Rattle.gm_slots.proofs.Owning.{ended_own, each_mapped}
 use Rattle.gm_slots.proofs.Numbering.{as_many}
-use Rattle.gm_promise.proofs.Accounted.{accounted, took_entered}
+use Rattle.gm_slots.proofs.Accounted.{accounted, took_entered}
 use Rattle.gm_slots.proofs.Ended.{not_settled, whole_of}
 use Rattle.gm_slots.proofs.ending.settle_slots.Goals as goal
 use Rattle.gm_slots.proofs.ending.settle_slots.Goals.{in-Ok, in-Err}
@@ -43,7 +43,7 @@ returns g c = elim c.match-settle.branch [
       (subst (λ l. Counts k.slots w.in-Ok.settled.openings l) (sym ended.log_is) ended.counts)) in
       rw w.book-is (told
       (λ same closed counted. whole_of k g.K.BookName.taped c.args.limits g.K.BookName.history w.in-Ok.settled _ ended.log ended.log_is w.in-Ok.ensures.history ended.legal ended.agrees (own same) ended.tape
-      (subst (AddUp w.in-Ok.settled.tape.items) (sym ended.shares_are) settled.up) same closed
+      (subst (AddUp w.in-Ok.settled.tape.items) (sym ended.shares_are) settled.up) same closed ended.counts
       (accounted (λ desk. desk.number) (λ desk. desk.share.items) (λ desk. desk.witness) (λ pen. pen.slot) (λ pen. pen.share.items) (λ pen. pen.witness) (λ pen. pen.seat.takes) k c.args.limits ended.log ended.legal (own same)
       desks pens w.in-Ok.settled.shares.items c.in_ok-desks.field-0.accounts.items ended.shares_are ended.seen
       (λ i none lt. (get_or desks i none).witnessed.1) (λ i none lt. (get_or pens i none).witnessed.1) (took closed) same all.accounts

@@ -4,8 +4,10 @@ use Rattle.gm_slots.proofs.Numbering.{numbered_more}
 use Rattle.gm_slots.proofs.slot.new_slots.Goals as goal
 
 pub new-requires : goal.new-requires
-new-requires g c =
-    All-head (λ desk. desk.witness.seen ≡ []) _ _ (All-same (λ desk. desk.witness.seen ≡ []) _ _ (sym c.in-Some-next.ensures.cases.0) c.loop-pen.invariant.nothing_seen)
+new-requires g c = record {
+  desk = All-head (λ desk. desk.witness.seen ≡ []) _ _ (All-same (λ desk. desk.witness.seen ≡ []) _ _ (sym c.in-Some-next.ensures.cases.0) c.loop-pen.invariant.nothing_seen);
+  side = ap (λ s. s.passed) c.in-Some-next_sides.ensures.0;
+}
 
 pub loop-pen-preserved : goal.loop-pen-preserved
 loop-pen-preserved g c = record {
@@ -16,5 +18,7 @@ loop-pen-preserved g c = record {
 }
 
 pub new-requires-in-loop-pen-2 : goal.new-requires-in-loop-pen-2
-new-requires-in-loop-pen-2 g c =
-    All-head (λ pen. (pen.witness.seen ≡ []) × (pen.seat.takes ≡ 0)) _ _ (All-same (λ pen. (pen.witness.seen ≡ []) × (pen.seat.takes ≡ 0)) _ _ (sym c.in-Some.ensures.steps.0) c.loop-pen.invariant.nothing_given)
+new-requires-in-loop-pen-2 g c = record {
+  pen = All-head (λ pen. (pen.witness.seen ≡ []) × (pen.seat.takes ≡ 0)) _ _ (All-same (λ pen. (pen.witness.seen ≡ []) × (pen.seat.takes ≡ 0)) _ _ (sym c.in-Some.ensures.steps.0) c.loop-pen.invariant.nothing_given);
+  side = ap (λ s. s.passed) c.in-Some-next_sides.ensures.1;
+}

@@ -11,8 +11,8 @@ loop-init g c = record {
 pub loop-preserved : goal.loop-preserved
 loop-preserved g c = record {
   reading = reading_more g.K.BookName.settings g.K.BookName.taped c.args.desk.now.number _ _ _ (g.I.Read.remaining c.loop.reader) (g.I.Read.remaining c.step.new.source) None None _ c.loop.desk.witness.seen
-      c.step.new.desk.witness.seen c.loop.session.feeder c.loop.session.has_units c.loop.invariant.reading c.loop.desk.number c.loop.invariant.number c.in-Ok.field-0 c.step.new.session.feeder
-      c.step.new.session.has_units c.in-Ok.ensures.units c.in-Ok.ensures.steps;
+      c.step.new.desk.witness.seen c.loop.session.feeder c.loop.session.has_units c.loop.invariant.reading c.loop.desk.number c.loop.invariant.number c.step.new.session.has_units c.step.new.session.feeder
+      c.in-Ok.ensures.steps;
   number = c.in-Ok.ensures.number ∙ c.loop.invariant.number;
 }
 

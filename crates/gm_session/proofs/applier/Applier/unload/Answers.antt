@@ -36,7 +36,7 @@ returns-in_err-may_be_long-clause-unloads g c =
     rw (e.1, e.2)
     (unloads_stops k taped c.args.desk.now.number c.args.self.now.slot _ _ _ _ _ c.take_unit.new.session.feeder c.loop-batch.invariant.unloading end
     (at_home k taped c.args.desk.now.number c.args.self.now.slot _ c.loop-batch.session.feeder c.take_unit.new.session.feeder _ c.take_unit.new.desk.witness.seen (Err end)
-    c.loop-batch.invariant.number c.in_err-may_be_long.ensures.takes))
+    c.loop-batch.invariant.number c.in_err-may_be_long.ensures.takes) c.take_unit.new.session.has_units)
 
 pub returns-in_err-may_be_long-clause-gathers : goal.returns-in_err-may_be_long-clause-gathers
 returns-in_err-may_be_long-clause-gathers g c =

@@ -55,7 +55,7 @@ returns-clause-called g c =
       legal = subst (Legal g.K.BookName.settings) (sym is) (held_log _ c.args.read.now.event desk noop _ _ _ _ log i.legal c.hold-result.result h.2).1;
       noop = noop;
       calls = subst (Calls g.K.BookName.settings g.K.BookName.taped s desk noop c.hold-result.result c.hold-result.new.touched log) (sym is)
-          (held_calls _ c.args.read.now.event desk noop _ _ _ _ log i.legal g.K.BookName.taped i.on i.recorded i.counts c.hold-result.result c.hold-result.ensures.opened h.2);
+          (held_calls _ c.args.read.now.event desk noop _ _ _ _ log i.legal g.K.BookName.taped i.on i.recorded c.hold-result.result h.2);
     }
 
 pub invariant_of-desk : goal.invariant_of-desk

@@ -1,0 +1,16 @@
+//! The two halves of a connection's socket: what only reads, and what only writes. No other code reads from a
+//! connection or writes to it. Each half has a log of the bytes that it gave or took, and of what each of its calls
+//! answered.
+#![tactic(auto)]
+
+mod halves;
+mod log;
+mod source;
+mod wire;
+mod writer;
+
+pub use halves::{Halves, ReadHalf, Socket};
+pub use log::{Log, Logged};
+pub use source::{Left, LoggedSource};
+pub use wire::{KnownWriter, Wire};
+pub use writer::LoggedWriter;
