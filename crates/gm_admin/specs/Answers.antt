@@ -9,14 +9,14 @@ use Rattle.gm_admin.specs.declared.fault.AdminError.{AdminError}
 use Rattle.gm_admin.specs.declared.fault.AdminError.TheVariants.{UnknownCommand, MissingName, BadSize, BadFunction, TooManyFunctions}
 use Rattle.gm_admin.specs.declared.fault.AdminError.TheVariants.{LineTooLong}
 
--- what a line of `status` says: a function, its jobs, those of them that run, and the workers that can do them
+-- a line of `status`: a function, its jobs, those of them that run, and the workers that can do them
 pub record StatusLine : Type 0 where
   pub name : List ℕ
   pub total : ℕ
   pub running : ℕ
   pub workers : ℕ
 
--- what a line of `workers` says: a slot, the address of its connection, its id and its functions
+-- a line of `workers`: a slot, the address of its connection, its id and its functions
 pub record WorkerLine : Type 0 where
   pub slot : ℕ
   pub addr : List ℕ
@@ -30,7 +30,7 @@ shown_byte b = if nat_le b 32 || b == 127 then 63 else b
 abbrev pub shown : List ℕ → List ℕ
 shown text = map shown_byte text
 
--- the text, or a dash (45) where it is empty
+-- the text, or a dash (45) if it is empty
 abbrev pub shown_or_dash : List ℕ → List ℕ
 shown_or_dash text = if length text == 0 then 45 ∷ [] else shown text
 

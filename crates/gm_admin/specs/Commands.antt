@@ -1,4 +1,4 @@
--- What a line commands: a definition over the list of its words.
+-- The command of a line: a definition over the list of its words.
 use Rattle.std.specs.Prelude.{ℕ, ◌^◌, Bool, true, false, ◌||◌, ◌==◌, if◌then◌else◌, List, [], ◌∷◌, map, codes}
 use Rattle.std.specs.Prelude.{Option, Some, None, Result, Ok, Err}
 use Rattle.std.specs.Char.{to_ascii_lowercase}
@@ -7,7 +7,7 @@ use Rattle.gm_packet.specs.Decimals.{decimal_below}
 use Rattle.gm_admin.specs.declared.fault.AdminFault.{AdminFault}
 use Rattle.gm_admin.specs.declared.fault.AdminFault.TheVariants.{UnknownCommand, MissingName, BadSize}
 
--- what a line commands, wherever its bytes lie; a size of 0 is no limit
+-- the command of a line, wherever its bytes lie; a size of 0 is no limit
 pub data Commanded : Type 0 where
   Status : Commanded
   Workers : Commanded
@@ -26,7 +26,7 @@ abbrev pub with_head : ℕ → List (List ℕ) → List (List ℕ)
 with_head b [] = (b ∷ []) ∷ []
 with_head b (word ∷ words) = (b ∷ word) ∷ words
 
--- b before these bytes, whose words are these: it is a word of its own where a gap or the end follows
+-- b before these bytes, whose words are these: it is a word of its own if a gap or the end follows
 abbrev pub words_with : ℕ → List ℕ → List (List ℕ) → List (List ℕ)
 words_with b [] words = (b ∷ []) ∷ words
 words_with b (next ∷ bytes) words = if is_gap next then (b ∷ []) ∷ words else with_head b words
@@ -42,7 +42,7 @@ is_word word known = bytes_eq (map to_ascii_lowercase word) known
 
 -- ---- sizes
 
--- no limit, where the digits after a minus (45) are a number
+-- no limit, if the digits after a minus (45) are a number
 abbrev pub negative : Option ℕ → Option ℕ
 negative None = None
 negative (Some n) = Some 0
@@ -79,6 +79,6 @@ command_of_words (word ∷ words) =
     else (if is_word word (codes "shutdown") then shutdown_of words
     else Err UnknownCommand))))
 
--- what a line commands, or why it commands nothing
+-- the command of a line, or why it commands nothing
 abbrev pub command_of : List ℕ → Result Commanded AdminFault
 command_of line = command_of_words (words_of line)

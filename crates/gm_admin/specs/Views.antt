@@ -1,4 +1,4 @@
--- What commands and lines say, without where their bytes lie in memory.
+-- The contents of commands and lines, without where their bytes lie in memory.
 use Rattle.std.specs.Prelude.{ℕ, Result, Ok, Err, map}
 use Rattle.gm_admin.specs.declared.command.Command.{Command}
 use Rattle.gm_admin.specs.declared.command.Command.TheVariants.{Status, Workers, MaxQueue, Version, Shutdown}

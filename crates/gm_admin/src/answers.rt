@@ -12,9 +12,8 @@ use std::alloc::AllocError;
 /// The server's version, as `version` answers it.
 pub const VERSION: &str = "1.0.0";
 
-/// Appends the answer to `status`: a line for each function, and a dot. As the other functions here do, it
-/// fails only where `out` has no room for the whole answer and there is no memory for more, and then changes
-/// no byte.
+/// Appends the answer to `status`: a line for each function, and a dot. As the other functions here do, it fails only
+/// if `out` has no room for the whole answer and there is no memory for more, and then changes no byte.
 #[tactic(auto, using(crate::proofs::LineTexts::line_texts))]
 pub fn write_status(lines: &[StatusRow<'_>], out: &mut Vec<u8>) -> Result<(), AllocError>
     ensures ok { OnOk result (out.new.items
@@ -38,7 +37,7 @@ pub fn write_workers(lines: &[WorkerRow<'_>], out: &mut Vec<u8>) -> Result<(), A
     write_list(lines, out)
 }
 
-/// Appends the answer to a command that was carried out.
+/// Appends the answer to a command that was carried out: `OK`.
 pub fn write_ok(out: &mut Vec<u8>) -> Result<(), AllocError>
     ensures ok { OnOk result (out.new.items ≡ out.old.items ++ ok_text) }
     ensures err { OnErr result (out.new.items ≡ out.old.items) }

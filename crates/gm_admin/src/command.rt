@@ -8,7 +8,7 @@ use crate::fault::AdminFault;
 use crate::sizes::size;
 use crate::words::{is_word, next_word};
 
-/// What an administrator asks for: the commands of gearmand(8)'s administrative protocol.
+/// A command of gearmand(8)'s administrative protocol.
 #[derive(Clone, Copy, Debug, PartialEq, Eq)]
 pub enum Command<'a> {
     /// Lists the functions with their jobs.
@@ -59,10 +59,9 @@ impl<'a> Command<'a> {
     /// Reads a line, without its newline. Spaces and tabs separate its words, and the case of a command's
     /// ASCII letters doesn't matter. `status`, `workers` and `version` ignore the words that follow them.
     ///
-    /// `UnknownCommand` is returned where there is no word or no such command, and for `shutdown` with other
-    /// words than `graceful`; `MissingName` for `maxqueue` alone; and `BadSize` for `maxqueue` where the size
-    /// isn't 1 to 10 digits with a value that fits 32 bits, after a minus or not, or is followed by a word. It
-    /// takes no memory.
+    /// `UnknownCommand` is returned if there is no word or no such command, and for `shutdown` with other words than
+    /// `graceful`; `MissingName` for `maxqueue` alone; and `BadSize` for `maxqueue` if the size isn't 1 to 10 digits
+    /// with a value that fits 32 bits, after a minus or not, or is followed by a word. It takes no memory.
     pub fn read(line: &'a [u8]) -> Result<Command<'a>, AdminFault>
         ensures { commanded_result result ≡ command_of line.now }
     {

@@ -1,9 +1,9 @@
-//! What is wrong with a line.
+//! The faults of a line.
 
 ghost use Rattle.std.specs.Prelude.{◌≡◌};
 ghost use Rattle.gm_admin.specs.Views.{number_of_fault};
 
-/// Why a line is no command. The numbers are those of the server's refusals.
+/// Why a line isn't a command. The numbers are those of the server's refusals.
 #[derive(Clone, Copy, Debug, PartialEq, Eq)]
 pub enum AdminFault {
     /// The first word is no command, or the command doesn't take the words that follow.

@@ -1,6 +1,6 @@
-//! What a line of a list says.
+//! The contents of the lines of `status` and `workers`.
 
-/// What a line of `status` says of a function.
+/// A line of `status`: a function and its numbers.
 #[derive(Clone, Copy, Debug, PartialEq, Eq)]
 pub struct StatusRow<'a> {
     /// The function.
@@ -13,14 +13,14 @@ pub struct StatusRow<'a> {
     pub workers: u32,
 }
 
-/// What a line of `workers` says of a connection.
+/// A line of `workers`: a connection.
 #[derive(Debug, Drop, PartialEq, Eq)]
 pub struct WorkerRow<'a> {
     /// The slot of the connection.
     pub slot: u32,
     /// Its address.
     pub addr: &'a [u8],
-    /// The name that it gave itself; empty where it gave none.
+    /// The name that it gave itself; empty if it gave none.
     pub id: &'a [u8],
     /// The functions that it can do, in the order in which it named them.
     pub functions: Vec<&'a [u8]>,

@@ -13,7 +13,7 @@ fn number(digits: &[u8]) -> Option<u32>
     u32::try_from(read_decimal(digits, 10)?).ok()
 }
 
-/// The size that a word says; 0, which is no limit, where a minus comes before the digits.
+/// The size that a word says; 0, which is no limit, if a minus comes before the digits.
 pub(crate) fn size(word: &[u8]) -> Option<u32>
     ensures { result ≡ size_of word.now }
 {

@@ -89,7 +89,7 @@ impl Put for StatusRow<'_> {
     }
 }
 
-/// The text, or a dash where it is empty.
+/// The text, or a dash if it is empty.
 fn or_dash(text: &[u8]) -> &[u8]
     ensures { shown result.now ≡ shown_or_dash text.now }
 {

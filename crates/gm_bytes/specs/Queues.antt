@@ -1,4 +1,4 @@
--- What a queue of bytes is.
+-- Queues of bytes.
 use Rattle.std.specs.Prelude.{◌≡◌, ℕ, ◌+◌, ◌-◌, max, List, [], ◌∷◌, ◌++◌, length, take, drop}
 use Rattle.gm_bytes.specs.declared.run.Run.{Run}
 
@@ -15,7 +15,7 @@ empty_queue = record { bytes = []; room = 0 }
 abbrev pub with_room : ℕ → Queued → Queued
 with_room n queue = record queue { room = max queue.room n }
 
--- the bytes wait behind the others, which takes so much of the room
+-- the bytes wait after the others, and take this much of the room
 abbrev pub with_bytes : List ℕ → ℕ → Queued → Queued
 with_bytes bytes cost queue = record { bytes = queue.bytes ++ bytes; room = queue.room - cost }
 

@@ -14,14 +14,14 @@ use std::mem;
 pub const SHARED_ROOM: usize = 512;
 
 /// A queue of bytes. Some of them are copied to it, others are the ends of shared buffers and lie where they are.
-/// Contracts see one list, and the room that is reserved for more: what is put in reserved room can't fail.
+/// Contracts see one list, and the room that is reserved for more: a call that puts bytes in reserved room can't fail.
 #[derive(Drop)]
 pub struct ByteQueue {
     copied: Vec<u8>,
     // How many of the copied bytes came before runs that are gone.
     start: usize,
     runs: VecDeque<Run>,
-    // How many copied bytes come behind the last run.
+    // How many copied bytes come after the last run.
     behind: usize,
     // How many bytes were taken from the front: of the first run and the bytes right before it, or of the copied bytes
     // if there is no run.
@@ -91,7 +91,7 @@ impl ByteQueue {
         self.room
     }
 
-    /// The bytes wait behind the others, in reserved room.
+    /// The bytes wait after the others, in reserved room.
     pub fn put(&mut self, bytes: &[u8])
         requires { length bytes.now ≤ self.old.room }
         ensures { self.new ≡ with_bytes bytes.now (length bytes.now) self.old }
@@ -101,7 +101,7 @@ impl ByteQueue {
         self.room -= bytes.len();
     }
 
-    /// The head and the tail wait behind the others, in reserved room: the tail, which is shared, takes `SHARED_ROOM`
+    /// The head and the tail wait after the others, in reserved room: the tail, which is shared, takes `SHARED_ROOM`
     /// of it.
     pub fn put_shared(&mut self, head: &[u8], tail: SharedBytes)
         requires { length head.now + 512 ≤ self.old.room }

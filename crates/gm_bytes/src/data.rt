@@ -57,7 +57,7 @@ impl<'a> Data<'a> {
         }
     }
 
-    /// One owner more of the buffer in which they lie; none where it has one owner, or as many as it may have.
+    /// One owner more of the buffer in which they lie; none if it has one owner, or as many as it may have.
     pub fn share(&self) -> Option<SharedBytes>
         ensures { IfSome result (λ shared. shared ≡ self.now.bytes.now) }
     {
@@ -76,7 +76,7 @@ impl<'a> Data<'a> {
         }
     }
 
-    /// A copy of them that can have several owners, where they are long and can't be shared; none without memory.
+    /// A copy of them that can have several owners, if they are long and can't be shared; none without memory.
     pub fn copy_long(&self, alloc: Global) -> Option<SharedBytes>
         ensures { IfSome result (λ copy. copy ≡ self.now.bytes.now) }
     {

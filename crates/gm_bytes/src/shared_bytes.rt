@@ -36,7 +36,7 @@ impl SharedBytes {
     }
 
     /// The bytes from an index on: one more owner of the same buffer. No byte is copied and no memory taken; it fails
-    /// where the count of the owners is full.
+    /// if the count of the owners is full.
     pub fn suffix(&self, from: usize) -> Result<SharedBytes, AllocError>
         requires { from ≤ length self.now }
         ensures { IfOk result (λ shared. shared ≡ drop from self.now) }

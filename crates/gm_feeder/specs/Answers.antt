@@ -1,4 +1,4 @@
--- What calls that read or write answered, the newest first, where that is known.
+-- The answers of calls that read or write, the newest first, if they are known.
 use Rattle.std.specs.Prelude.{◌≡◌, ℕ, ◌<◌, List, ◌∷◌, Option, Some, None, Result, Ok, Err}
 use Rattle.std.specs.IoError.{error_kind}
 use Rattle.std.specs.declared.io.Error.{Error}

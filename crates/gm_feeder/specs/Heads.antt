@@ -1,4 +1,4 @@
--- What the pending bytes begin with.
+-- The beginning of the pending bytes.
 use Rattle.std.specs.Prelude.{◌≢◌, ℕ, ◌+◌, ◌<◌, ◌≤◌, List, ◌++◌, length, take, drop, replicate, slice_index}
 use Rattle.std.specs.Io.BufRead.{strip_last}
 use Rattle.gm_packet.specs.Packets.{request_magic}
@@ -15,11 +15,11 @@ empty_header = request_magic ++ replicate 8 0
 abbrev pub filled_header : List ℕ → List ℕ
 filled_header bytes = take 12 bytes ++ drop (length bytes) empty_header
 
--- what a whole packet says beside its type
+-- the data of a whole packet
 abbrev pub data_of : List ℕ → List ℕ
 data_of packet = drop 12 packet
 
--- what a whole line says
+-- the text of a whole line
 abbrev pub text_of : List ℕ → List ℕ
 text_of line = without_return (strip_last 10 line)
 

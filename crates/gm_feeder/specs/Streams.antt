@@ -1,4 +1,4 @@
--- What the calls of a feeder do.
+-- The calls of a feeder.
 use Rattle.std.specs.Prelude.{◌≡◌, ℕ, List, [], ◌∷◌, ◌++◌, length, drop, Option, Some, None, Result, Ok, Err, IfSome}
 use Rattle.std.specs.Io.KnownBytes.{Consumes, Appends}
 use Rattle.gm_feeder.specs.declared.units.Limits.{Limits}
@@ -8,13 +8,13 @@ use Rattle.gm_feeder.specs.declared.units.Unit.TheVariants.{Packet, Line}
 use Rattle.gm_feeder.specs.declared.units.OwnedPacket.{OwnedPacket}
 use Rattle.gm_feeder.specs.Units.{Item, APacket, ALine, IsUnitThen, IsFaultOf, Waits}
 
--- what a feeder is to its callers: the bytes that came and were not yet given out, and the fault that it has returned
+-- a feeder as its callers see it: the bytes that came and were not yet given out, and the fault that it has returned
 pub record Stream : Type 0 where
   pub limits : Limits
   pub pending : List ℕ
   pub fault : Option FeedFault
 
--- what a unit says, wherever its bytes lie
+-- the contents of a unit, wherever its bytes lie
 abbrev pub item_of : Given → Item
 item_of (Packet kind bytes) = APacket kind bytes.now
 item_of (Line bytes) = ALine bytes.now
@@ -27,7 +27,7 @@ item_in packet = APacket packet.kind (drop packet.data_at packet.bytes.items)
 abbrev pub with_bytes : Stream → List ℕ → Stream
 with_bytes stream piece = record stream { pending = stream.pending ++ piece }
 
--- these bytes of the input, as many as the count, came behind the pending ones, and just these were heard
+-- these bytes of the input, as many as the count, came after the pending ones, and just these were heard
 pub record TakesIn (input rest heard after : Option (List ℕ)) (old new : Stream) (count : ℕ) : Type 0 where
   pub piece : List ℕ
   pub consumes : Consumes input rest piece
@@ -61,13 +61,13 @@ pub record GivesFault (old : Stream) (fault : FeedFault) (new : Stream) : Type 0
   pub stands : IsFaultOf old.limits old.pending fault
   pub kept : new ≡ with_fault old fault
 
--- what the next unit is, and what is left
+-- the next unit, and the rest
 abbrev pub GivesNext : Stream → Result (Option Given) FeedFault → Stream → Type 0
 GivesNext old (Ok (Some unit)) new = GivesUnit old (item_of unit) new
 GivesNext old (Ok None) new = GivesNone old new
 GivesNext old (Err fault) new = GivesFault old fault new
 
--- what happens to a feeder: a piece is fed, or a unit that says this is given
+-- an event of a feeder: a piece is fed, or a unit with these contents is given
 pub data Event : Type 0 where
   Fed : List ℕ → Event
   Gave : Item → Event
@@ -84,7 +84,7 @@ all_fed [] = []
 all_fed (Fed piece ∷ events) = piece ++ all_fed events
 all_fed (Gave item ∷ events) = all_fed events
 
--- what the units given say
+-- the contents of the units given
 abbrev pub all_given : List Event → List Item
 all_given [] = []
 all_given (Fed piece ∷ events) = all_given events

@@ -1,4 +1,4 @@
--- What a unit is, and what a stream of units spells, on whole lists of bytes.
+-- Units, and the spelling of a stream of units, on whole lists of bytes.
 use Rattle.std.specs.Prelude.{◌≡◌, ◌≢◌, ℕ, ◌^◌, ◌<◌, ◌≤◌, List, [], ◌∷◌, ◌++◌, length, take}
 use Rattle.std.specs.List.{All}
 use Rattle.std.specs.Io.BufRead.{strip_last}
@@ -14,7 +14,7 @@ fault_number PacketTooLarge = 4
 fault_number LineTooLong = 5
 fault_number Memory = 6
 
--- what a unit says: a packet its type and its data, a line its text
+-- the contents of a unit: of a packet its type and its data, of a line its text
 pub data Item : Type 0 where
   APacket : ℕ → List ℕ → Item
   ALine : List ℕ → Item

@@ -20,7 +20,7 @@ use std::alloc::Global;
 use std::marker::Model;
 use std::mem;
 
-/// The most room that is kept where no byte is pending.
+/// The most room that is kept when no byte is pending.
 const MOST_KEPT: usize = 65_536;
 
 /// Takes the bytes of a connection in pieces of any length, and gives them out as units.
@@ -32,7 +32,7 @@ const MOST_KEPT: usize = 65_536;
 /// nothing.
 #[derive(Drop)]
 pub struct Feeder {
-    // The pending bytes, from `start` to `end`, and behind them room to read into, which is cleared once.
+    // The pending bytes, from `start` to `end`, and after them room to read into, which is cleared once.
     buffer: Vec<u8>,
     // The bytes before it were given out. `feed` and `read_from` drop them, and `next_unit` doesn't, so that no byte is
     // moved once for each unit.
@@ -78,8 +78,8 @@ impl Feeder {
 
     /// Takes the next bytes of the stream, at any cut.
     ///
-    /// A fault that `next_unit` has returned is returned again. Otherwise `Memory` is returned where there is
-    /// no memory for the piece. No error changes anything. The cost is that of the piece, amortized.
+    /// A fault that `next_unit` has returned is returned again. Otherwise `Memory` is returned if there is no memory
+    /// for the piece. No error changes anything. The cost is that of the piece, amortized.
     pub fn feed(&mut self, piece: &[u8]) -> Result<(), FeedFault>
         ensures ok { OnOk result (self.new ≡ with_bytes self.old piece.now) }
         ensures err { OnErr result (self.new ≡ self.old) }
@@ -104,7 +104,7 @@ impl Feeder {
     /// They are read to where they are pending, without a copy. If the header of a packet is pending, room is made
     /// for the rest of that packet, once.
     ///
-    /// A fault that `next_unit` has returned is returned again. Otherwise `Memory` is returned where there is no memory
+    /// A fault that `next_unit` has returned is returned again. Otherwise `Memory` is returned if there is no memory
     /// for the room, and nothing was read. No error changes anything.
     pub fn read_from<E, S: Source<E>>(&mut self, source: &mut S, by: &E) -> Result<usize, ReadError>
         ensures ok { IfOk result (λ count. TakesIn (S.remaining source.old) (S.remaining source.new) (S.heard source.old) (S.heard source.new) self.old self.new count) }
@@ -134,7 +134,7 @@ impl Feeder {
         }
     }
 
-    // Drops the bytes that were given out, where they are at least as many as the rest: each byte that is moved is
+    // Drops the bytes that were given out, if they are at least as many as the rest: each byte that is moved is
     // paid for by one that was given out since the last time.
     fn move_down(&mut self)
         ensures { self.new ≡ self.old }
@@ -147,7 +147,7 @@ impl Feeder {
         }
     }
 
-    /// The next unit, lent until the next call, or `None` where more bytes are needed.
+    /// The next unit, lent until the next call, or `None` if more bytes are needed.
     ///
     /// `BadMagic` is returned as soon as the bytes begin with NUL and one of the first four differs from the
     /// magic; `PacketTooLarge` as soon as the size, with its missing bytes taken as zero, is above the limit;
@@ -187,7 +187,7 @@ impl Feeder {
     }
 
     /// The next unit with its memory, if it is a packet with at least `least` bytes of data, and there is memory for
-    /// the bytes behind it. If not, nothing changes. It is for long packets, whose data can be kept without a copy.
+    /// the bytes after it. If not, nothing changes. It is for long packets, whose data can be kept without a copy.
     pub fn take_packet(&mut self, least: usize) -> Option<OwnedPacket>
         ensures packet { IfSome result (λ packet. GivesUnit self.old (item_in packet) self.new) }
         ensures none { IfNone result (self.new ≡ self.old) }
@@ -204,7 +204,7 @@ impl Feeder {
         }
     }
 
-    // Gives out the packet with which the pending bytes begin, with its memory: the bytes behind it are copied to
+    // Gives out the packet with which the pending bytes begin, with its memory: the bytes after it are copied to
     // memory of their own.
     fn take_buffer(&mut self, kind: u32, size: usize) -> Option<OwnedPacket>
         requires within { 12 + size ≤ length self.old.pending }
@@ -231,7 +231,7 @@ impl Feeder {
         })
     }
 
-    // Gives large memory back where nothing is in it that is still to be given out.
+    // Gives large memory back if nothing is in it that is still to be given out.
     fn let_go(&mut self)
         ensures { self.new ≡ self.old }
     {

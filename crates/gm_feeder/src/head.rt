@@ -15,7 +15,7 @@ pub(crate) const HEADER_LEN: usize = 12;
 /// The header of a packet with type 0 and no data.
 const EMPTY_HEADER: [u8; HEADER_LEN] = *b"\0REQ\0\0\0\0\0\0\0\0";
 
-/// What the pending bytes begin with.
+/// The beginning of the pending bytes.
 #[derive(Clone, Copy, Debug, PartialEq, Eq)]
 pub(crate) enum Head {
     /// A whole packet of this type, with `size` bytes of data.
@@ -90,7 +90,7 @@ fn find_line(bytes: &[u8], scanned: usize, limits: Limits) -> Head
     Head::Incomplete { scanned: end }
 }
 
-/// The head of bytes of which the first `scanned` hold no newline.
+/// The head of bytes whose first `scanned` hold no newline.
 pub(crate) fn find_head(bytes: &[u8], scanned: usize, limits: Limits) -> Head
     requires { IsScanned limits bytes.now scanned }
     ensures { IsHead limits bytes.now result }
@@ -102,8 +102,7 @@ pub(crate) fn find_head(bytes: &[u8], scanned: usize, limits: Limits) -> Head
     }
 }
 
-/// How many bytes of a packet are still to come, where its header is there; 0 where it isn't, or where the packet is
-/// too large.
+/// How many bytes of a packet are still to come, if its header is there; 0 if it isn't, or if the packet is too large.
 pub(crate) fn missing_of(bytes: &[u8], limits: Limits) -> usize {
     let Some(header) = bytes.first_chunk::<HEADER_LEN>() else {
         return 0;

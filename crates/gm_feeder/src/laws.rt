@@ -35,8 +35,7 @@ pub fn any_cut()
         → Spells limits (first ++ second) (items ++ more) end }
 {}
 
-/// A rest has at most one fault. If it has one it begins with no unit, and where more bytes are needed it has
-/// none.
+/// A rest has at most one fault. If it has one it begins with no unit, and if more bytes are needed it has none.
 pub fn one_fault()
     ensures one { (limits : Limits) (rest : List ℕ) (fault other : FeedFault)
         → IsFaultOf limits rest fault → IsFaultOf limits rest other → fault ≡ other }
@@ -46,7 +45,7 @@ pub fn one_fault()
         → Waits limits rest → IsFaultOf limits rest fault → ⊥ }
 {}
 
-/// A rest has a fault exactly where no continuation of it begins with a unit. If more bytes are needed, some
+/// A rest has a fault exactly if no continuation of it begins with a unit. If more bytes are needed, some
 /// continuation does.
 pub fn fault_where_no_unit_can_come()
     ensures hopeless { (limits : Limits) (rest : List ℕ) (fault : FeedFault)

@@ -14,10 +14,10 @@ const LEAST_ROOM: usize = 1_024;
 /// The room for the first read, which doubles whenever a read has filled it.
 const FIRST_PIECE: usize = 2_048;
 
-/// The most room that is made where it isn't known how many bytes are missing.
+/// The most room that is made if it isn't known how many bytes are missing.
 const PIECE: usize = 16_384;
 
-/// The least room for a packet of which more is announced than came.
+/// The least room for a packet whose header announces more than came.
 const ANNOUNCED_PIECE: usize = 65_536;
 
 /// The least memory for such a packet. What isn't read into yet isn't touched, and a packet that is no longer isn't
@@ -27,7 +27,7 @@ const RESERVED_PIECE: usize = 131_072;
 /// The most bytes that are cleared at a time: what was cleared last is still near when it is read into.
 const LONG_PIECE: usize = 262_144;
 
-/// How much room the next read gets behind the first `end` bytes, where there is this much.
+/// How much room the next read gets after the first `end` bytes, if there is this much.
 ///
 /// Room for a packet that is only announced follows the bytes that came: as much again, at least a piece. So a header
 /// alone takes no memory for the packet.
@@ -45,7 +45,7 @@ fn room_for_read(end: usize, missing: usize, room: usize) -> usize
     }
 }
 
-/// Makes room behind the first `end` bytes, of which the rest of a packet gets no more than it misses. The memory
+/// Makes room after the first `end` bytes. The rest of a packet gets no more of it than it misses. The memory
 /// doubles at least whenever it grows for a long packet, so that each of its bytes is copied a bounded number of times.
 pub(crate) fn make_room(
     buffer: &mut Vec<u8>,
@@ -72,7 +72,7 @@ pub(crate) fn make_room(
     buffer.resize(len, 0)
 }
 
-/// Reads behind the first `at` bytes, by one call.
+/// Reads after the first `at` bytes, by one call.
 pub(crate) fn read_at<E, S: Source<E>>(
     source: &mut S,
     by: &E,

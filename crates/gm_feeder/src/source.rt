@@ -12,7 +12,7 @@ pub enum Patience {
     Hurries,
 }
 
-/// What a call that reads or writes answered.
+/// The answer of a call that reads or writes.
 #[derive(Clone, Copy)]
 pub enum Answer {
     /// It gave or took this many bytes, of the room or of the bytes that it was handed.
@@ -21,8 +21,8 @@ pub enum Answer {
     Failed(ErrorKind),
 }
 
-/// What gives bytes, and is told how it is to read: whether it waits. Of some sources contracts know all that they
-/// gave, and what each call answered.
+/// A source of bytes. The caller says whether a read waits. Of some sources contracts know all that they gave, and what
+/// each call answered.
 pub trait Source<E> {
     ghost use Rattle.std.specs.Prelude.{◌≡◌, List, ℕ, ℤ, Option, length};
     ghost use Rattle.std.specs.Io.{ReadsAtMost};
@@ -30,16 +30,16 @@ pub trait Source<E> {
     ghost use Rattle.gm_feeder.specs.declared.source.Answer.{Answer};
     ghost use Rattle.gm_feeder.specs.Answers.{Answered, answer_of};
 
-    // The bytes that it will give from here on, where they are known.
+    // The bytes that it will give from here on, if they are known.
     ghost remaining: { Self → Option (List ℕ) };
 
-    // The bytes that it gave so far, where they are known.
+    // The bytes that it gave so far, if they are known.
     ghost heard: { Self → Option (List ℕ) };
 
-    // What each call answered so far, the newest first, where that is known.
+    // The answers of the calls so far, the newest first, if they are known.
     ghost answers: { Self → Option (List Answer) };
 
-    // The number of the socket that it reads from, where it is known.
+    // The number of the socket that it reads from, if it is known.
     ghost socket: { Self → Option ℤ };
 
     /// Reads into the room, by one call, and answers how many bytes these are: none at its end.
@@ -51,7 +51,7 @@ pub trait Source<E> {
         ensures socket { socket self.new ≡ socket self.old };
 }
 
-/// A reader is told nothing, and nobody records what it gave.
+/// A reader needs no such argument, and its bytes aren't recorded.
 impl<I: Read> Source<()> for I {
     ghost use Rattle.std.specs.Prelude.{None};
 

@@ -1,4 +1,4 @@
-//! What a feeder gives out, how large it may be, and what can be wrong.
+//! The units that a feeder gives out, their limits, and the faults of a stream.
 
 ghost use Rattle.std.specs.Prelude.{◌≡◌, ◌≤◌, length};
 

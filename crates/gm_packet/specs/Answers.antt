@@ -8,7 +8,7 @@ use Rattle.gm_packet.specs.declared.response.Response.TheVariants.{EchoRes}
 use Rattle.gm_packet.specs.declared.response.Response.TheVariants.{Error, StatusRes, WorkException, OptionRes, WorkData, WorkWarning}
 use Rattle.gm_packet.specs.declared.response.Response.TheVariants.{JobAssignUniq}
 
--- what a packet from the server says: its type and its arguments
+-- a packet from the server: its type and its arguments
 pub record Answer : Type 0 where
   pub kind : ℕ
   pub arguments : List (List ℕ)

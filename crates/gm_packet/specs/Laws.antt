@@ -16,7 +16,7 @@ use Rattle.gm_packet.specs.Requests.{request_texts}
 abbrev pub KindsAreNumberedApart : Type 0
 KindsAreNumberedApart = (j k : Kind) → number j ≡ number k → j ≡ k
 
--- If two packets, each with anything behind it, are the same bytes, they are the same packet.
+-- If two packets, each with anything after it, are the same bytes, they are the same packet.
 abbrev pub NoPacketBeginsAnother : Type 0
 NoPacketBeginsAnother =
     (m n : List ℕ) (j k : ℕ) (a b x y : List ℕ)
@@ -24,7 +24,7 @@ NoPacketBeginsAnother =
     → packet m j a ++ x ≡ packet n k b ++ y
     → (packet m j a ≡ packet n k b) × (m ≡ n) × (j < 2 ^ 32 → k < 2 ^ 32 → j ≡ k) × (a ≡ b) × (x ≡ y)
 
--- what data of a packet type ask is one thing
+-- data of a packet type ask one thing
 abbrev pub OneReading : Type 0
 OneReading = (kind : ℕ) (bytes : List ℕ) (a b : Asked) → Asks kind bytes a → Asks kind bytes b → a ≡ b
 
@@ -34,7 +34,7 @@ last_of [] = []
 last_of (text ∷ []) = text
 last_of (text ∷ second ∷ texts) = last_of (second ∷ texts)
 
--- What is read as it was written: a last argument that isn't opaque holds no NUL, and after others (the
+-- Arguments that are read as they were written: a last argument that isn't opaque holds no NUL, and after others (the
 -- denominator of a WORK_STATUS) it isn't empty, since the NUL before it would then be the last byte of the
 -- data and be dropped.
 abbrev pub IsReadable : Shape → List (List ℕ) → Type 0

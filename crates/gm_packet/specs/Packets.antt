@@ -1,4 +1,4 @@
--- What a packet is, byte by byte; what one can carry; and what appending one means.
+-- Packets, byte by byte; the arguments that one can carry; and the meaning of appending one.
 use Rattle.std.specs.Prelude.{◌≡◌, ℕ, ◌+◌, ◌-◌, ◌<◌, ◌^◌, ◌==◌, Bool, false, List, ◌∷◌, ◌++◌, length, take, codes}
 use Rattle.std.specs.Prelude.{Result, OnOk, OnErr, vec_len, vec_capacity}
 use Rattle.std.specs.Global.{Vec}
@@ -26,7 +26,7 @@ has_nul text = list_any (λ b. b == 0) text
 abbrev pub LackNul : ℕ → List (List ℕ) → Type 0
 LackNul n arguments = list_any has_nul (take n arguments) ≡ false
 
--- What a packet can carry: no argument but the last holds NUL, and the data's length fits 32 bits.
+-- A packet can carry these arguments: no argument but the last holds NUL, and the data's length fits 32 bits.
 pub record Fits (texts : List (List ℕ)) : Type 0 where
   pub separable : LackNul (length texts - 1) texts
   pub sized : length (join_with_byte 0 texts) < 2 ^ 32

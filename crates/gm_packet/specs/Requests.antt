@@ -1,4 +1,4 @@
--- What the data of a request mean: first how they are spelled, as a relation; then the walk that finds the
+-- The meaning of the data of a request: first how they are spelled, as a relation; then the walk that finds the
 -- arguments; and last the packet that is written for them.
 use Rattle.std.specs.Prelude.{◌≡◌, ℕ, ◌^◌, ◌==◌, Bool, false, if◌then◌else◌}
 use Rattle.std.specs.Prelude.{List, [], ◌∷◌, ◌++◌, length, decimal, Option, Some, None, Result, Err}
@@ -13,7 +13,7 @@ use Rattle.gm_packet.specs.declared.kind.Kind.{Kind}
 use Rattle.gm_packet.specs.declared.request.RequestFault.{RequestFault}
 use Rattle.gm_packet.specs.declared.request.RequestFault.TheVariants.{UnknownCommand, BadArguments}
 
--- what a request asks: its arguments but for a timeout, and the timeout in seconds, 0 where it has none
+-- a request: its arguments but for a timeout, and the timeout in seconds, 0 if it has none
 pub record Asked : Type 0 where
   pub kind : Kind
   pub arguments : List (List ℕ)
@@ -25,7 +25,7 @@ pub record Asked : Type 0 where
 abbrev pub seconds_of : List ℕ → Option ℕ
 seconds_of digits = decimal_below (2 ^ 32) 10 digits
 
--- The data are the arguments with one NUL between each two; where the last may not hold NUL, one NUL
+-- The data are the arguments with one NUL between each two; if the last may not hold NUL, one NUL
 -- more may follow.
 abbrev pub Spells : Shape → List (List ℕ) → ℕ → List ℕ → Type 0
 Spells Empty arguments timeout bytes = (arguments ≡ []) × (timeout ≡ 0) × (bytes ≡ [])
@@ -77,11 +77,11 @@ arguments_of (Plain n) bytes = option_map (λ texts. (texts, 0)) (parts has_nul 
 arguments_of (Opaque n) bytes = option_map (λ texts. (texts, 0)) (parts (λ _. false) n bytes)
 arguments_of Timed bytes = option_and_then with_timeout (parts (λ _. false) 1 (strip_last 0 bytes))
 
--- what data of a known kind ask
+-- the request in data of a known kind
 abbrev pub read_as : Kind → List ℕ → Option Asked
 read_as kind bytes = option_map (λ (found : List (List ℕ) × ℕ). record { kind = kind; arguments = found.0; timeout = found.1 }) (arguments_of (shape kind) bytes)
 
--- what a packet's type and data ask, or why they ask nothing
+-- the request in a packet's type and data, or why there is none
 abbrev pub read_kind : Option Kind → List ℕ → Result Asked RequestFault
 read_kind None bytes = Err UnknownCommand
 read_kind (Some kind) bytes = ok_or (read_as kind bytes) BadArguments

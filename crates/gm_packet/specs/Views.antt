@@ -1,4 +1,4 @@
--- What a request asks, without where its bytes lie in memory.
+-- The contents of a request, without where its bytes lie in memory.
 use Rattle.std.specs.Prelude.{ℕ, List, [], ◌∷◌, Result, Ok, Err}
 use Rattle.gm_packet.specs.declared.kind.Kind.{Kind}
 use Rattle.gm_packet.specs.declared.kind.Kind.TheVariants as kinds

@@ -25,7 +25,7 @@ pub struct BadMagic;
 
 /// Reads the header of a request: the magic `\0REQ`, then the type and the size, each four bytes with
 /// the highest first (the Gearman PROTOCOL document, "Binary Packet"). `BadMagic` is returned exactly
-/// where the first four bytes differ from the magic.
+/// if the first four bytes differ from the magic.
 pub fn read_header(bytes: &[u8; 12]) -> Result<Header, BadMagic>
     ensures found { IfOk result (λ header.
         bytes.now ≡ request_magic ++ to_be_bytes w32 header.kind ++ to_be_bytes w32 header.size) }

@@ -20,7 +20,7 @@ use itoa::Buffer;
 use std::alloc::AllocError;
 use std::fmt::{self, Debug, Formatter, Write};
 
-/// Why a packet is no request.
+/// Why a packet isn't a request.
 #[derive(Clone, Copy, Debug, PartialEq, Eq)]
 pub enum RequestFault {
     /// No request has this packet type.
@@ -195,9 +195,9 @@ fn read_exactly(kind: u32, bytes: &[u8]) -> Result<Request<'_>, RequestFault>
 }
 
 impl<'a> Request<'a> {
-    /// The request of a packet of this type with these data. `UnknownCommand` is returned exactly where no
-    /// request has the type, whatever the data; otherwise `BadArguments` exactly where the data don't spell
-    /// the arguments of that request. It takes no memory.
+    /// The request of a packet of this type with these data. `UnknownCommand` is returned exactly if no request has the
+    /// type, whatever the data; otherwise `BadArguments` exactly if the data don't spell the arguments of that request.
+    /// It takes no memory.
     pub fn read(kind: u32, bytes: &'a [u8]) -> Result<Request<'a>, RequestFault>
         // As one function.
         ensures exact { asked_result result ≡ request_of kind bytes.now }
@@ -310,14 +310,14 @@ pub fn request_fits(request: &Request<'_>) -> bool
     }
 }
 
-/// Appends the packet of a request that a packet can carry (`request_fits`). It fails only where `out` has no
-/// room for it and there is no memory for more, and then changes no byte.
+/// Appends the packet of a request that a packet can carry (`request_fits`). It fails only if `out` has no room for it
+/// and there is no memory for more, and then changes no byte.
 pub fn write_request(request: &Request<'_>, out: &mut Vec<u8>) -> Result<(), AllocError>
     requires { Fits (request_texts (asked_of request.now)) }
     ensures ok { OnOk result (out.new.items ≡ out.old.items ++ request_packet (asked_of request.now)) }
     ensures err { OnErr result (out.new.items ≡ out.old.items) }
 
-    // It fails only where there is no room.
+    // It fails only if there is no room.
     ensures full { OnErr result (vec_capacity out.old < vec_len out.old + length (request_packet (asked_of request.now))) }
 {
     let number = kind(request).number();

@@ -53,7 +53,7 @@ pub enum Response<'a> {
         code: &'a [u8],
         text: &'a [u8],
     },
-    /// What is known of a job.
+    /// The status of a job.
     StatusRes {
         handle: &'a [u8],
         known: bool,
@@ -168,8 +168,7 @@ impl Debug for Response<'_> {
     }
 }
 
-/// How many bytes the packet of a response takes, with its header; the greatest `u64` where it takes more
-/// than that.
+/// How many bytes the packet of a response takes, with its header; the greatest `u64` if it takes more than that.
 pub fn response_len(response: &Response<'_>) -> u64
     ensures { result ≡ min (length (answer_packet (answer_of response.now))) (2 ^ 64 - 1) }
 {
@@ -184,14 +183,14 @@ pub fn response_fits(response: &Response<'_>) -> bool
     fits(texts(response).as_slice())
 }
 
-/// Appends the packet of a response that a packet can carry (`response_fits`). It fails only where `out` has
-/// no room for it and there is no memory for more, and then changes no byte.
+/// Appends the packet of a response that a packet can carry (`response_fits`). It fails only if `out` has no room for
+/// it and there is no memory for more, and then changes no byte.
 pub fn write_response(response: &Response<'_>, out: &mut Vec<u8>) -> Result<(), AllocError>
     requires { Fits (answer_of response.now).arguments }
     ensures ok { OnOk result (out.new.items ≡ out.old.items ++ answer_packet (answer_of response.now)) }
     ensures err { OnErr result (out.new.items ≡ out.old.items) }
 
-    // It fails only where there is no room.
+    // It fails only if there is no room.
     ensures full { OnErr result (vec_capacity out.old < vec_len out.old + length (answer_packet (answer_of response.now))) }
 {
     put_texts(

@@ -10,7 +10,7 @@ pub(crate) struct Texts<'a> {
     ghost within: { count ≤ 5 },
 }
 
-/// The argument at an index, or no bytes where there is none.
+/// The argument at an index, or no bytes if there is none.
 #[inline(always)]
 fn text_at<'a>(texts: &[&'a [u8]], i: usize) -> &'a [u8]
     ensures { i < length texts.now → slice_get texts.now i ≡ Some result }

@@ -9,7 +9,7 @@ ghost use Rattle.gm_packet.specs.Packets.{has_nul, LackNul, Fits, AppendsPacket}
 use crate::arguments::has_nul;
 use std::alloc::AllocError;
 
-/// How many bytes the arguments after the first take, each behind its NUL; at most the greatest `u64`.
+/// How many bytes the arguments after the first take, each after its NUL; at most the greatest `u64`.
 #[inline(always)]
 fn tail_len(rest: &[&[u8]]) -> u64
     ensures { result ≡ min (length (flat_map (λ text. 0 ∷ text.now) rest.now)) (2 ^ 64 - 1) }
@@ -67,7 +67,7 @@ fn header(magic: &[u8; 4], kind: u32, size: u32) -> [u8; 12]
     [m0, m1, m2, m3, k0, k1, k2, k3, s0, s1, s2, s3]
 }
 
-/// Appends where there is room.
+/// Appends if there is room.
 #[inline(always)]
 fn put(out: &mut Vec<u8>, bytes: &[u8])
     requires { vec_len out.old + length bytes.now ≤ vec_capacity out.old }
@@ -78,7 +78,7 @@ fn put(out: &mut Vec<u8>, bytes: &[u8])
     out.extend_from_slice(bytes).unwrap();
 }
 
-/// Appends the arguments after the first, each behind its NUL, where there is room.
+/// Appends the arguments after the first, each after its NUL, if there is room.
 #[inline(always)]
 fn put_tail(out: &mut Vec<u8>, rest: &[&[u8]])
     requires { vec_len out.old + length (flat_map (λ text. 0 ∷ text.now) rest.now) ≤ vec_capacity out.old }
@@ -90,7 +90,7 @@ fn put_tail(out: &mut Vec<u8>, rest: &[&[u8]])
     }
 }
 
-/// Appends the data that the arguments spell, where there is room.
+/// Appends the data that the arguments spell, if there is room.
 #[inline(always)]
 fn put_data(out: &mut Vec<u8>, texts: &[&[u8]])
     requires { vec_len out.old + length (join_with_byte 0 (map (λ text. text.now) texts.now)) ≤ vec_capacity out.old }
@@ -105,7 +105,7 @@ fn put_data(out: &mut Vec<u8>, texts: &[&[u8]])
     }
 }
 
-/// Appends the packet of this type with these arguments, or leaves `out` as it was where there is no room
+/// Appends the packet of this type with these arguments, or leaves `out` as it was if there is no room
 /// for all of it and no memory for more.
 #[inline(always)]
 fn put_packet(
