@@ -70,7 +70,7 @@ priority_of SubmitJobLow = Some Low
 priority_of SubmitJobLowBg = Some Low
 priority_of kind = None
 
--- how many seconds the jobs of an ability may take, 0 where there is no limit, by the request and the seconds that it
+-- how many seconds the jobs of an ability may take, 0 if there is no limit, by the request and the seconds that it
 -- says
 abbrev pub job_seconds : Kind → ℕ → Option ℕ
 job_seconds CanDo timeout = Some 0
@@ -121,7 +121,7 @@ abbrev pub Commands : Step → Commanded → Type 0
 Commands (Line c bytes) command = command_of bytes ≡ Ok command
 Commands other command = ⊥
 
--- what is asked is to submit this job
+-- the request is to submit this job
 abbrev pub Submits : Asked → Job → Type 0
 Submits asked what =
     (priority_of asked.kind ≡ Some what.priority)
@@ -145,7 +145,7 @@ GoesTo modes.Stopped s = Commands s (Shutdown false)
 
 -- ---- causes
 
--- what a packet asks begins with the job's handle
+-- a packet's request begins with the job's handle
 abbrev pub NamesJob : Settings → ℕ → List ℕ → ℕ → Type 0
 NamesJob k number bytes n = (asked : Asked) × (request_of number bytes ≡ Ok asked) × (first asked.arguments ≡ handle k n)
 
@@ -206,7 +206,7 @@ IsOfEnd k answer =
 abbrev pub IsAssignment : Answer → Type 0
 IsAssignment answer = (answer.kind ≡ 11) ⊎ (answer.kind ≡ 31)
 
--- the step after these notes may queue the bytes to slot c: NO_JOB only for a grab, and only where there is no pick
+-- the step after these notes may queue the bytes to slot c: NO_JOB only for a grab, and only if there is no pick
 abbrev pub MaySay : Settings → List Note → Step → ℕ → List ℕ → Type 0
 MaySay k before s c bytes = bytes ≡ answer_packet no_job → (asks is_grab c s ≡ true) × (pick k c before ≡ None)
 

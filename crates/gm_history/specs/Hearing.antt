@@ -42,7 +42,7 @@ PassesOn k before c s d bytes =
     (n : ℕ) × (asked : Asked) × (answer : Answer) × PacketAsks c s asked × (job_state n before ≡ states.Running c) × (first asked.arguments ≡ handle k n)
     × (passed_on k (wants_exceptions d before) n asked.kind asked.arguments ≡ Some answer) × (bytes ≡ answer_packet answer) × (0 < listens d n before)
 
--- The step after these notes may queue the bytes to slot d. What a slot asks is answered only to it. Another slot gets
+-- The step after these notes may queue the bytes to slot d. A slot's request is answered only to it. Another slot gets
 -- reports of the worker of a job to which it listens, and WORK_FAIL in the tick that ends such a job. Other steps queue
 -- nothing.
 abbrev pub MayGet : Settings → List Note → Step → ℕ → List ℕ → Type 0

@@ -64,12 +64,12 @@ Allowed k (Kept n) older = is_live (job_state n older) ≡ true
 Allowed k (Listens n c) older = (is_live (job_state n older) ≡ true) × (is_open c older ≡ true)
 -- only a waiting job is given out, and only to whose grab gets it
 Allowed k (Assigned n c deadline) older = (is_waiting (job_state n older) ≡ true) × (is_open c older ≡ true) × Gets k c n older
--- only a job with a worker waits again or is lost, and only while it is wanted: it is lost just where the worker was
+-- only a job with a worker waits again or is lost, and only while it is wanted: it is lost exactly if the worker was
 -- its last one
 Allowed k (Returned n) older = (runs_at_a_slot (job_state n older) ≡ true) × (is_wanted n older ≡ true) × (is_last_try k n older ≡ false)
 Allowed k (Lost n) older = (runs_at_a_slot (job_state n older) ≡ true) × (is_wanted n older ≡ true) × (is_last_try k n older ≡ true)
 Allowed k (Ended n) older = is_running (job_state n older) ≡ true
--- a job is discarded only where nobody wants it, and never once it is lost
+-- a job is discarded only if nobody wants it, and never once it is lost
 Allowed k (Discarded n) older = ((is_waiting (job_state n older) || runs_at_a_slot (job_state n older)) ≡ true) × (is_wanted n older ≡ false)
 Allowed k (Report n a b) older = runs_at_a_slot (job_state n older) ≡ true
 Allowed k (Mention f) older = (is_mentioned f older ≡ false) × (length (functions older) < k.max_functions)

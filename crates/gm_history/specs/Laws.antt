@@ -1,4 +1,4 @@
--- What every history keeps.
+-- Laws of every history.
 use Rattle.std.specs.Prelude.{◌≡◌, ℕ, ◌==◌, Bool, true, false, if◌then◌else◌, List, [], ◌∷◌, ◌++◌}
 use Rattle.gm_notes.specs.declared.note.Note.{Note}
 use Rattle.gm_notes.specs.declared.states.Phase.TheVariants.{Awake}
@@ -17,7 +17,7 @@ AfterAnySteps P = (k : Settings) (steps : List Step) → P k (run k steps).notes
 abbrev pub SleepersAreOpen : Type 0
 SleepersAreOpen = (k : Settings) (steps : List Step) (c : ℕ) → is_open c (run k steps).notes ≡ false → phase c (run k steps).notes ≡ Awake
 
--- what was taken of the bytes of slot c since it was opened
+-- the bytes taken from slot c since it was opened
 abbrev pub drained : ℕ → List Flow → List ℕ
 drained c [] = []
 drained c (Began d ∷ older) = if c == d then [] else drained c older

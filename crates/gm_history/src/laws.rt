@@ -1,12 +1,12 @@
-//! What every history keeps. Each function here is a law: its contract states it, and its body is empty.
+//! Laws of every history. Each function here is a law: its contract states it, and its body is empty.
 
 ghost use Rattle.gm_history.specs.History.{History};
 ghost use Rattle.gm_history.specs.Laws.{AfterAnySteps, InEachStep, NotesAreCaused, SleepersAreOpen, BytesArrive};
 
 /// Every note of the past was allowed when it was added: only a waiting job was given out, and only to whose grab gets
-/// it; only a job with a worker waited again or was lost, and only one that somebody wants, lost just where the worker
+/// it; only a job with a worker waited again or was lost, and only one that somebody wants, lost exactly if the worker
 /// was its last one; none was discarded that somebody wants, and none that was lost; a job got the next number, joined
-/// nothing, and its function was below its limit; a NOOP became owed only where a job waited that the slot could do; no
+/// nothing, and its function was below its limit; a NOOP became owed only when a job waited that the slot could do; no
 /// mode came after a later one.
 pub fn each_note_was_allowed()
     ensures { AfterAnySteps History }

@@ -1,4 +1,4 @@
--- What slots can do is what they asked for.
+-- Slots can do what they asked for.
 use Rattle.std.specs.Prelude.{◌≡◌, ◌⊎◌, ℕ, true, false, List, Some}
 use Rattle.gm_packet.specs.declared.kind.Kind.TheVariants.{CantDo, ResetAbilities}
 use Rattle.gm_packet.specs.Requests.{Asked}
@@ -12,7 +12,7 @@ use Rattle.gm_history.specs.Causes.{PacketAsks, job_seconds, closes}
 use Rattle.gm_history.specs.History.{is_able_within}
 use Rattle.gm_laws.specs.Refusals.{IsError, HasReason}
 
--- what is asked is to do this function from now on, within these seconds
+-- the request is to do this function from now on, within these seconds
 abbrev pub Enables : Asked → List ℕ → ℕ → Type 0
 Enables asked f seconds = (first asked.arguments ≡ f) × (job_seconds asked.kind asked.timeout ≡ Some seconds)
 
@@ -24,7 +24,7 @@ Disables asked f = ((asked.kind ≡ CantDo) × (first asked.arguments ≡ f)) �
 abbrev pub IsRejected : Settings → ℕ → Asked → Past → Past → Type 0
 IsRejected k c asked before after = (code : List ℕ) × HasReason k c asked before code × IsError c code before after
 
--- what a slot that takes units asks comes true, or is answered with an ERROR
+-- a slot that takes units gets or loses the ability as it asks, or is answered with an ERROR
 abbrev pub AbilitiesCome : Settings → Past → Step → Past → Type 0
 AbilitiesCome k before s after = (c : ℕ) (asked : Asked) (f : List ℕ) → takes_units c before.notes ≡ true → PacketAsks c s asked →
     ((seconds : ℕ) → Enables asked f seconds → (is_able_within c f seconds after.notes ≡ true) ⊎ IsRejected k c asked before after)

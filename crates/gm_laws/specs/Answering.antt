@@ -11,7 +11,7 @@ use Rattle.gm_notes.specs.Steps.{Step, Open, Packet, Line, Fault, Close, Tick}
 use Rattle.gm_notes.specs.Servers.{step_of, Answers, AnswersAt, NeedsNoMemory, steps_after, steps_after_that}
 use Rattle.gm_history.specs.Causes.{is_close}
 
--- what a job server may answer to an event after these steps
+-- the answers that a job server may give to an event after these steps
 abbrev pub MayAnswer : Settings → List Step → Event → Result Done ApplyError → Type 0
 MayAnswer k steps event answer = Answers k steps (step_of event) answer × (NeedsNoMemory event → IsErrOf answer Memory → ⊥)
 
@@ -20,7 +20,7 @@ abbrev pub LacksMemory : Step → Result Done ApplyError → Result Done ApplyEr
 LacksMemory s (Err Memory) (Ok answer) = is_close s ≡ false
 LacksMemory s one other = ⊥
 
--- what an event is
+-- the step of an event
 abbrev pub step_said : Event → Step
 step_said (events.Open addr) = Open addr.now
 step_said (events.Packet slot kind bytes) = Packet slot kind bytes.bytes.now
@@ -37,7 +37,7 @@ pub record ServersAnswerAlike : Type 0 where
   -- the taking and the withdrawal of a NOOP need no memory
   pub noops : (k : Settings) (steps : List Step) (s : Step) (one other : Result (Unit {0}) ApplyError) →
       AnswersAt k steps s one → AnswersAt k steps s other → one ≡ other
-  -- what is taken adds its step, and what is refused adds none
+  -- an event that is taken adds its step, and a refused one adds none
   pub taken : (steps : List Step) (s : Step) (answer : Done) → steps_after (Ok answer) s steps ≡ s ∷ steps
   pub refused : (steps : List Step) (s : Step) (error : ApplyError) → steps_after (Err error) s steps ≡ steps
   pub noop_taken : (steps : List Step) (s : Step) (answer : Unit {0}) → steps_after_that (Ok answer) s steps ≡ s ∷ steps

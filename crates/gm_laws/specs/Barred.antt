@@ -14,7 +14,7 @@ abbrev pub IsOwedNone : ℕ → Past → ApplyError → Type 0
 IsOwedNone c before error =
     ((error ≡ NotOpen) × (is_open c before.notes ≡ false)) ⊎ ((error ≡ NotOwed) × (is_open c before.notes ≡ true) × (owes c before ≡ false))
 
--- what bars an event
+-- the reasons that bar an event
 abbrev pub IsBarred : Settings → Step → Past → ApplyError → Type 0
 -- the server goes down, or no slot is free
 IsBarred k (Open addr) before error =
@@ -31,7 +31,7 @@ IsBarred k (Withdrew c) before error = IsOwedNone c before error
 IsBarred k (Tick now) before error = ⊥
 IsBarred k (Drain c) before error = ⊥
 
--- a step is refused exactly where something bars it, and then changes nothing
+-- a step is refused exactly if something bars it, and then changes nothing
 abbrev pub OnlyTheBarredIsRefused : Settings → Past → Step → Past → Type 0
 OnlyTheBarredIsRefused k before s after = (error : ApplyError) →
     (IsBarred k s before error → refusal k s before ≡ Some error)

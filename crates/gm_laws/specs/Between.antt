@@ -1,4 +1,4 @@
--- What holds of the notes between steps.
+-- Invariants of the notes between steps.
 use Rattle.std.specs.Prelude.{◌≡◌, ◌⊎◌, ℕ, ◌<◌, true, false, List, Some}
 use Rattle.gm_notes.specs.declared.note.Note.{Note}
 use Rattle.gm_notes.specs.Settings.{Settings}

@@ -1,4 +1,4 @@
--- What the closing of a slot does.
+-- The effect of the closing of a slot.
 use Rattle.std.specs.Prelude.{◌≡◌, ◌⊎◌, ℕ, true, false, ◌==◌, if◌then◌else◌}
 use Rattle.gm_notes.specs.Settings.{Settings}
 use Rattle.gm_notes.specs.Notes.{is_open}
@@ -15,7 +15,7 @@ ListensNoMore c before after = (n d : ℕ) →
     (listens d n after.notes ≡ (if c == d then 0 else listens d n before.notes)) × (is_kept n after.notes ≡ is_kept n before.notes)
 
 -- a job that ran there waits again or is lost if it is wanted still; one that waited goes on waiting; and either is
--- discarded if nobody wants it. What runs at another slot goes on.
+-- discarded if nobody wants it. Jobs that run at another slot go on.
 abbrev pub LeavesItsJobs : ℕ → Past → Past → Type 0
 LeavesItsJobs c before after = (n : ℕ) →
     (job_state n before.notes ≡ states.Running c → is_wanted n after.notes ≡ true → (job_state n after.notes ≡ states.Waiting) ⊎ (job_state n after.notes ≡ states.Lost))

@@ -1,4 +1,4 @@
--- What the words of a text line command.
+-- The command of a text line's words.
 use Rattle.std.specs.Prelude.{◌≡◌, ◌⊎◌, ℕ, Bool, true, false, ◌||◌, ◌==◌, List, [], ◌∷◌, ◌++◌, codes, Ok, Err}
 use Rattle.std.specs.List.{list_any, list_all}
 use Rattle.gm_admin.specs.declared.fault.AdminFault.TheVariants.{UnknownCommand, MissingName, BadSize}
@@ -19,7 +19,7 @@ abbrev pub ends_word : List ℕ → Bool
 ends_word [] = true
 ends_word (b ∷ bytes) = is_space b
 
--- the line is these words, with spaces and tabs before, between and behind them
+-- the line is these words, with spaces and tabs before, between and after them
 abbrev pub AreWords : List ℕ → List (List ℕ) → Type 0
 AreWords line [] = list_all is_space line ≡ true
 AreWords line (word ∷ words) =
@@ -33,7 +33,7 @@ IsEither word small large = ⊥
 
 -- ---- commands
 
--- a size is a number, and no limit where it is behind a minus (45)
+-- a size is a number, and no limit if it is after a minus (45)
 abbrev pub IsSize : List ℕ → ℕ → Type 0
 IsSize text size = IsNumber text size ⊎ ((digits : List ℕ) × (n : ℕ) × (text ≡ 45 ∷ digits) × IsNumber digits n × (size ≡ 0))
 
@@ -62,10 +62,10 @@ LacksSize words = ⊥
 pub record CommandsAreRead : Type 0 where
   -- each line is some words
   pub worded : (line : List ℕ) → (words : List (List ℕ)) × AreWords line words
-  -- and is read as a command exactly where they are that
+  -- and is read as a command exactly if they are that
   pub read : (line : List ℕ) (words : List (List ℕ)) (command : Commanded) → AreWords line words → IsCommand words command → command_of line ≡ Ok command
   pub meant : (line : List ℕ) (words : List (List ℕ)) (command : Commanded) → AreWords line words → command_of line ≡ Ok command → IsCommand words command
-  -- else it lacks a name or a size, or is no command
+  -- otherwise it lacks a name or a size, or is no command
   pub no_name : (line : List ℕ) (words : List (List ℕ)) → AreWords line words → LacksName words → command_of line ≡ Err MissingName
   pub no_size : (line : List ℕ) (words : List (List ℕ)) → AreWords line words → LacksSize words → command_of line ≡ Err BadSize
   pub unknown : (line : List ℕ) (words : List (List ℕ)) → AreWords line words → (LacksName words ⊎ LacksSize words → ⊥) →

@@ -112,7 +112,7 @@ WorkNotInherited =
     created 0 "H:gmd:1" ∷ assigned 1 "H:gmd:1" "f" "1" ∷ error 1 "job_not_found" "job not found" ∷ [])
     × Waits four_slots steps 1 ((error 1 "job_not_found" "job not found").1)
 
--- what waits is what was queued since the last drain; a closing drops it
+-- the waiting bytes are those that were queued since the last drain; a closing drops them
 abbrev pub BytesWait : Type 0
 BytesWait =
     let steps =
@@ -125,7 +125,7 @@ BytesWait =
     × Waits four_slots (steps ++ Close 1 ∷ []) 1 []
     × Waits four_slots (steps ++ Close 1 ∷ []) 0 ((echoed 0 "x").1)
 
--- what was sent to a connection is all that was queued since its opening, drained or not
+-- the bytes sent to a connection are all that were queued since its opening, drained or not
 abbrev pub BytesSent : Type 0
 BytesSent =
     IsSent four_slots (
@@ -139,7 +139,7 @@ TwoSlots =
     ∷ can_do 1 "f" ∷ grab_job 1 ∷ []) (
     created 0 "H:gmd:1" ∷ assigned 0 "H:gmd:1" "f" "1" ∷ status 1 "H:gmd:1" false false "0" "0" ∷ no_job 1 ∷ [])
 
--- A job whose worker disconnects waits again, behind the others
+-- A job whose worker disconnects waits again, after the others
 abbrev pub ReturnedJob : Type 0
 ReturnedJob =
     Plays defaults (

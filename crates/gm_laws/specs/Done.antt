@@ -1,4 +1,4 @@
--- What a step that is taken answers.
+-- The answer to a step that is taken.
 use Rattle.std.specs.Prelude.{◌≡◌, ℕ, true, false, Some, None}
 use Rattle.gm_notes.specs.Settings.{Settings}
 use Rattle.gm_notes.specs.Notes.{is_open}

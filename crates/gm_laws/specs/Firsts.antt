@@ -18,7 +18,7 @@ abbrev pub HasNoneWaitingOf : Priority → List Note → List ℕ → Type 0
 HasNoneWaitingOf p notes f = (n : ℕ) (what : Job) →
     job_state n notes ≡ states.Waiting → job n notes ≡ Some what → what.function ≡ f → what.priority ≡ p → ⊥
 
--- what slot c can do
+-- the functions that slot c can do
 abbrev pub functions_of : ℕ → List Note → List (List ℕ)
 functions_of c notes = map (λ ability. ability.function) (abilities c notes)
 

@@ -25,7 +25,7 @@ pub record IsFit (k : Settings) : Type 0 where
   pub slots : IsFrom1To 1024 k.slots
   pub functions : IsFrom1To 65536 k.max_functions
 
--- there is no fault exactly where they fit, and a fault says what doesn't
+-- there is no fault exactly if they fit, and a fault says what doesn't
 pub record SettingsAreChecked : Type 0 where
   pub fit : (k : Settings) → config_fault k ≡ None → IsFit k
   pub none : (k : Settings) → IsFit k → config_fault k ≡ None

@@ -18,7 +18,7 @@ abbrev pub SubmitsInTheForeground : ℕ → ℕ → Past → Step → Past → T
 SubmitsInTheForeground c n before s after =
     (asked : Asked) × PacketAsks c s asked × (is_foreground asked.kind ≡ true) × JoinsOrMakes asked n before after
 
--- the same slots listen to job n, in the same order; or one is left out, which closes; or one is added behind the
+-- the same slots listen to job n, in the same order; or one is left out, which closes; or one is added after the
 -- others, which submits this job in the foreground
 abbrev pub ListenersStay : ℕ → Past → Step → Past → Type 0
 ListenersStay n before s after =
@@ -26,7 +26,7 @@ ListenersStay n before s after =
     ⊎ (((c : ℕ) × (closes c s ≡ true) × (listeners n after.notes ≡ filter (λ d. not (d == c)) (listeners n before.notes)))
     ⊎ ((c : ℕ) × SubmitsInTheForeground c n before s after × (listeners n after.notes ≡ listeners n before.notes ++ c ∷ [])))
 
--- what is kept stays kept, and becomes so only in a background submission of this job; and the listeners stay
+-- a kept job stays kept, and becomes so only in a background submission of this job; and the listeners stay
 abbrev pub HearingAndKeepingStay : Settings → Past → Step → Past → Type 0
 HearingAndKeepingStay k before s after = (n : ℕ) →
     (is_kept n before.notes ≡ true → is_kept n after.notes ≡ true)

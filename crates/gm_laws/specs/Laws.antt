@@ -1,4 +1,4 @@
--- What holds after any steps, under any settings.
+-- Laws of all steps, under any settings.
 use Rattle.std.specs.Prelude.{◌≡◌, ℕ, ◌+◌, ◌<◌, ◌≤◌, ◌^◌, ◌==◌, ◌⊎◌, Bool, true, false, not, List, [], ◌∷◌}
 use Rattle.std.specs.Prelude.{◌++◌, length, Some, None}
 use Rattle.std.specs.List.{list_any, list_all}
@@ -68,7 +68,7 @@ WorkersAndClocksEndJobs k before s after =
     ((n : ℕ) → is_unheard s before.notes ≡ false → Ends k before.notes s n → job_state n after.notes ≡ states.Ended)
     × ((n c : ℕ) → job_state n before.notes ≡ states.Running c → job_state n after.notes ≡ states.Running c → deadline n after.notes ≡ deadline n before.notes)
 
--- a job comes to run at a slot only where the slot grabs, and the job is its pick
+-- a job comes to run at a slot only if the slot grabs, and the job is its pick
 abbrev pub GivesThePick : Settings → Past → Step → Past → Type 0
 GivesThePick k before s after = (n c : ℕ) → job_state n after.notes ≡ states.Running c →
     (job_state n before.notes ≡ states.Running c) ⊎ ((asks is_grab c s ≡ true) × Gets k c n before.notes)
@@ -79,11 +79,12 @@ GrabsGetThePick = (k : Settings) (steps : List Step) (c number : ℕ) (found : P
     is_one_of is_grab (kind_of number) ≡ true → takes_units c (run k steps).notes ≡ true → pick k c (run k steps).notes ≡ Some found →
     job_state found.job (run k (Packet c number [] ∷ steps)).notes ≡ states.Running c
 
--- NO_JOB is queued only for a grab, and only where there is no pick
+-- NO_JOB is queued only for a grab, and only if there is no pick
 abbrev pub SaysNoJobWhereNoneIs : Settings → Past → Step → Past → Type 0
 SaysNoJobWhereNoneIs k before s after = (newer : List Flow) × (after.flow ≡ newer ++ before.flow) × AllSaid k before.notes s newer
 
--- what waits for a slot is taken by its drains, all of it, and goes with its closing, and nothing else takes of it
+-- the bytes that wait for a slot are taken by its drains, all of them, and go with its closing, and nothing else takes
+-- any
 abbrev pub takes_from : ℕ → Step → Bool
 takes_from c (Drain d) = c == d
 takes_from c (Close d) = c == d
@@ -96,7 +97,7 @@ OnlyDrainsTake k before s after =
 
 -- ---- how the server goes on
 
--- what a `shutdown` line makes of a mode: one that isn't graceful stops the server, and a graceful one changes only a
+-- the mode after a `shutdown` line: one that isn't graceful stops the server, and a graceful one changes only a
 -- running server
 abbrev pub after_shutdown : Bool → Mode → Mode
 after_shutdown false mode = Stopped
@@ -150,7 +151,7 @@ abbrev pub AllGoAlike : Settings → List Step → List Step → List Step → T
 AllGoAlike k [] these those = Unit {0}
 AllGoAlike k (s ∷ newer) these those = GoesAlike k s (run k (newer ++ these)) (run k (newer ++ those)) × AllGoAlike k newer these those
 
--- what a server is asked of either past it answers alike: which slots are owed a NOOP, which are shut, whether it goes
+-- a server answers questions about either past alike: which slots are owed a NOOP, which are shut, whether it goes
 -- on, where jobs are, and which bytes wait
 abbrev pub TellAlike : Past → Past → Type 0
 TellAlike a b =

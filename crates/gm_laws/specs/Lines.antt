@@ -1,4 +1,4 @@
--- What `status`, `workers`, `version` and ECHO_REQ are answered.
+-- The answers to `status`, `workers`, `version` and ECHO_REQ.
 use Rattle.std.specs.Prelude.{◌≡◌, ◌⊎◌, ℕ, ◌<◌, Bool, true, false, ◌==◌, List, [], ◌∷◌, ◌++◌, length, map, Some}
 use Rattle.std.specs.List.{All, list_any}
 use Rattle.gm_packet.specs.declared.kind.Kind.TheVariants.{EchoReq, SetClientId}
@@ -69,7 +69,7 @@ WorkersTells c before after =
 
 -- ---- the law
 
--- what a slot that takes units asks so is answered to it, and nothing happens
+-- such a question of a slot that takes units is answered to it, and nothing happens
 abbrev pub AdminTellsTheTruth : Settings → Past → Step → Past → Type 0
 AdminTellsTheTruth k before s after =
     ((c : ℕ) → IsCommanded c Status before s → StatusTells c before after × (after.notes ≡ before.notes))

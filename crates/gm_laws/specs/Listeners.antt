@@ -1,4 +1,4 @@
--- What a job's listeners get.
+-- The packets that a job's listeners get.
 use Rattle.std.specs.Prelude.{◌≡◌, ℕ, ◌<◌, true, not, ◌==◌, ◌⊎◌, if◌then◌else◌, List, [], ◌∷◌, ◌++◌, length, filter, replicate}
 use Rattle.std.specs.Prelude.{Option, Some, None, Ok}
 use Rattle.std.specs.List.{list_all}
@@ -25,7 +25,7 @@ use Rattle.gm_laws.specs.Turns.{One}
 
 -- ---- what is queued to a slot
 
--- what was queued to slot c since it was opened, one by one, the first first
+-- the texts queued to slot c since it was opened, one by one, the oldest first
 abbrev pub outputs : ℕ → List Flow → List (List ℕ)
 outputs c [] = []
 outputs c (Began d ∷ older) = if c == d then [] else outputs c older
@@ -43,7 +43,7 @@ copies bytes queued = length (filter (bytes_eq bytes) queued)
 
 -- ---- what is told
 
--- what a slot gets that listens this often, if there is something for it
+-- the packets for a slot that listens this often, if there is one for it
 abbrev pub heard : Option Answer → ℕ → List (List ℕ)
 heard None times = []
 heard (Some answer) times = replicate times (answer_packet answer)
@@ -102,7 +102,7 @@ AnswersStayHome k before s after = (newer : List Flow) × (after.flow ≡ newer 
 
 -- ---- ends
 
--- what a step after these notes says to slot c of the end of job n: what its worker says, or WORK_FAIL in a tick
+-- the answer of a step after these notes to slot c on the end of job n: its worker's report, or WORK_FAIL in a tick
 abbrev pub TellsEnd : Settings → List Note → ℕ → ℕ → Step → Answer → Type 0
 TellsEnd k before c n (Packet worker number bytes) answer =
     (asked : Asked) × (request_of number bytes ≡ Ok asked) × (is_ending k asked.kind ≡ true)
@@ -117,8 +117,8 @@ EachListenerIsTold k before s after = (n : ℕ) → job_state n after.notes ≡ 
     ⊎ ((c : ℕ) → (answer : Answer) × TellsEnd k before.notes c n s answer
     × ((newer : List (List ℕ)) × Queues c newer before after × (copies (answer_packet answer) newer ≡ listens c n before.notes)))
 
--- WORK_COMPLETE and WORK_FAIL, and with as_gearmand WORK_EXCEPTION, are queued to a slot only as what tells of the end
--- of a job, in the step that ends it, and only where the slot listens to it.
+-- WORK_COMPLETE and WORK_FAIL, and with as_gearmand WORK_EXCEPTION, are queued to a slot only to report the end of a
+-- job, in the step that ends it, and only if the slot listens to it.
 abbrev pub OnlyEndsAreTold : Settings → Past → Step → Past → Type 0
 OnlyEndsAreTold k before s after = (c : ℕ) (newer : List (List ℕ)) (answer : Answer) →
     Queues c newer before after → IsOfEnd k answer → 0 < copies (answer_packet answer) newer →

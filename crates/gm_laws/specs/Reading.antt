@@ -1,4 +1,4 @@
--- What the bytes that come in mean.
+-- The meaning of the bytes that come in.
 use Rattle.std.specs.Prelude.{◌≡◌, ℕ, ◌<◌, ◌≤◌, ◌^◌, false, ◌||◌, ◌==◌, List, ◌∷◌, ◌++◌, length}
 use Rattle.std.specs.Int.{w32, to_be_bytes}
 use Rattle.std.specs.List.{list_any}
@@ -24,7 +24,7 @@ abbrev pub MoreDataIsTooLarge : Type 0
 MoreDataIsTooLarge = (limits : Limits) (number : ℕ) (bytes after : List ℕ) → length bytes < 2 ^ 32 → limits.max_bytes < length bytes →
     IsFaultOf limits (requested number bytes ++ after) PacketTooLarge
 
--- with other bytes behind the NUL it is none
+-- with other bytes after the NUL it is none
 abbrev pub OtherMagicIsBad : Type 0
 OtherMagicIsBad = (limits : Limits) (a b c : ℕ) (after : List ℕ) → (a ≡ 82 → b ≡ 69 → c ≡ 81 → ⊥) → IsFaultOf limits (0 ∷ a ∷ b ∷ c ∷ after) BadMagic
 

@@ -1,4 +1,4 @@
--- Why requests and text lines are refused, and how. Each reason counts only where none of those above it does.
+-- Why requests and text lines are refused, and how. Each reason counts only if none of those above it does.
 use Rattle.std.specs.Prelude.{◌≡◌, ◌⊎◌, ℕ, ◌+◌, ◌<◌, ◌≤◌, ◌^◌, Bool, true, false, ◌||◌, ◌&&◌, ◌==◌, List, [], ◌∷◌, ◌++◌, length, map, codes, if◌then◌else◌, Result, Ok, Err}
 use Rattle.std.specs.List.{list_any}
 use Rattle.gm_packet.specs.declared.kind.Kind.{Kind}
@@ -72,7 +72,7 @@ names_run WorkData = true
 names_run WorkWarning = true
 names_run kind = false
 
--- it may bring a new function: an ability, or a job where there is none to join
+-- it may bring a new function: an ability, or a job if there is none to join
 abbrev pub BringsFunction : Asked → Past → Type 0
 BringsFunction asked before = (is_enabling asked.kind ≡ true) ⊎ ((is_submission asked.kind ≡ true) × JoinsNone asked before)
 
@@ -110,7 +110,7 @@ IsErroneous k (Ok command) before error = ⊥
 
 -- ---- faults
 
--- what a fault is answered with
+-- the answer to a fault
 abbrev pub IsToldOf : ℕ → UnitFault → Past → Past → Type 0
 IsToldOf c BadMagic before after = JustQueues c (error (codes "bad_magic") (codes "bad magic")) before after
 IsToldOf c PacketTooLarge before after = JustQueues c (error (codes "packet_too_large") (codes "packet too large")) before after

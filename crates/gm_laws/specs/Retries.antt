@@ -34,7 +34,7 @@ loses n note = false
 
 -- ---- the laws
 
--- where there is a limit, no job is handed out more often
+-- if there is a limit, no job is handed out more often
 abbrev pub NoJobIsHandedOutMoreOften : Settings → List Note → Type 0
 NoJobIsHandedOutMoreOften k notes = 0 < k.retries → (n : ℕ) → times (hands_out n) notes ≤ k.retries
 

@@ -216,7 +216,7 @@ told (Began c ∷ older) = told older
 told (Drained c ∷ older) = told older
 told (Emptied c ∷ older) = told older
 
--- what these steps queue, in order
+-- the texts that these steps queue, in order
 abbrev pub Plays : Settings → List Step → List Told → Type 0
 Plays k steps answers = told (after k steps).flow ≡ answers
 
@@ -240,7 +240,7 @@ Waits k steps c bytes = waiting c (after k steps).flow ≡ bytes
 abbrev pub IsSent : Settings → List Step → ℕ → List ℕ → Type 0
 IsSent k steps c bytes = sent c (after k steps).flow ≡ bytes
 
--- what one step more answers
+-- the answer to one step more
 abbrev pub IsDone : Settings → List Step → Step → Done → Type 0
 IsDone k steps s answer = done k s (after k steps) ≡ answer
 

@@ -7,7 +7,7 @@ use Rattle.gm_notes.specs.Past.{Past}
 use Rattle.gm_notes.specs.Steps.{Step, Packet, Line, Fault, refusal}
 use Rattle.gm_history.specs.Causes.{GoesTo, Commands, faults}
 
--- slot c is heard with this step exactly where it is open and isn't shut
+-- slot c is heard with this step exactly if it is open and isn't shut
 pub record IsHeard (k : Settings) (before : Past) (c : ℕ) (s : Step) : Type 0 where
   pub heard : is_open c before.notes ≡ true → is_shut c before.notes ≡ false → refusal k s before ≡ None
   pub alone : refusal k s before ≡ None → (is_open c before.notes ≡ true) × (is_shut c before.notes ≡ false)
@@ -18,7 +18,7 @@ WhoIsntShutIsHeard k before (Line c bytes) after = IsHeard k before c (Line c by
 WhoIsntShutIsHeard k before (Fault c fault) after = IsHeard k before c (Fault c fault)
 WhoIsntShutIsHeard k before other after = Unit {0}
 
--- what shuts slot c: a fault of it, or a `shutdown` line that isn't graceful
+-- a step that shuts slot c: a fault of it, or a `shutdown` line that isn't graceful
 abbrev pub Shuts : ℕ → Step → Type 0
 Shuts c s = (faults c s ≡ true) ⊎ Commands s (Shutdown false)
 

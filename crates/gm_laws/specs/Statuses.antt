@@ -1,4 +1,4 @@
--- What GET_STATUS is answered.
+-- The answer to GET_STATUS.
 use Rattle.std.specs.Prelude.{◌≡◌, ◌⊎◌, ℕ, Bool, true, false, ◌&&◌, if◌then◌else◌, List, [], ◌∷◌, codes, Option, Some, None, unwrap_or, Result, Ok, Err}
 use Rattle.std.specs.Str.{bytes_eq}
 use Rattle.gm_packet.specs.declared.kind.Kind.{Kind}
@@ -21,7 +21,7 @@ abbrev pub is_reporting : Kind → Bool
 is_reporting WorkStatus = true
 is_reporting kind = false
 
--- what is asked is to report these numbers of job n
+-- the request is to report these numbers of job n
 abbrev pub numbers_of : Settings → ℕ → Result Asked RequestFault → Option (List ℕ × List ℕ)
 numbers_of k n (Ok asked) =
     if is_reporting asked.kind && bytes_eq (first asked.arguments) (handle k n) then Some (second asked.arguments, third asked.arguments) else None

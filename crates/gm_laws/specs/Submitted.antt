@@ -34,7 +34,7 @@ JoinsNone asked before = (n : ℕ) → IsJoined asked n before → ⊥
 abbrev pub IsNew : Asked → ℕ → Past → Past → Type 0
 IsNew asked n before after = (what : Job) × (job n after.notes ≡ Some what) × Submits asked what × (job n before.notes ≡ None) × JoinsNone asked before
 
--- what is asked joins the job, or makes it
+-- the submission joins the job, or makes it
 abbrev pub JoinsOrMakes : Asked → ℕ → Past → Past → Type 0
 JoinsOrMakes asked n before after = IsJoined asked n before ⊎ IsNew asked n before after
 
@@ -93,7 +93,7 @@ grab_answer k n what GrabJob = Some (job_assign (handle k n) what.function what.
 grab_answer k n what GrabJobUniq = Some (job_assign_uniq (handle k n) what.function what.unique what.body)
 grab_answer k n what kind = None
 
--- in the step that gives a slot a job, the slot is told what the job is, and nobody is told anything else
+-- in the step that gives a slot a job, the slot gets the job as submitted, and no slot gets anything else
 abbrev pub GivesTheJob : Settings → Past → Step → Past → Type 0
 GivesTheJob k before s after = (n c : ℕ) → job_state n before.notes ≡ states.Waiting → job_state n after.notes ≡ states.Running c →
     (what : Job) × (asked : Asked) × (answer : Answer)

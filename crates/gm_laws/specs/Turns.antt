@@ -63,8 +63,8 @@ WasGivenLast k c [] f = ⊥
 WasGivenLast k c (s ∷ earlier) f =
     Gives k c f earlier s ⊎ (((g : List ℕ) → Gives k c g earlier s → ⊥) × (Opens k c earlier s → ⊥) × WasGivenLast k c earlier f)
 
--- the functions of slot c, each in its turn: those behind the function of the job that it was given last, then those
--- before it, and then it; or all as they were added, where it can't do that one, or was given none
+-- the functions of slot c, each in its turn: those after the function of the job that it was given last, then those
+-- before it, and then it; or all as they were added, if it can't do that function, or was given no job
 abbrev pub AreInTurn : Settings → ℕ → List Step → List (List ℕ) → Type 0
 AreInTurn k c steps turns =
     ((g : List ℕ) × (before after : List (List ℕ))

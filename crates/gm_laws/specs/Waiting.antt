@@ -91,7 +91,7 @@ IsGiven c before after =
     × (job_state n before.notes ≡ states.Waiting) × (job n before.notes ≡ Some what) × (is_able_within c what.function seconds before.notes ≡ true)
     × (job_state n after.notes ≡ states.Running c) × IsDeadline (moment before.notes) seconds (deadline n after.notes)
 
--- A grab of a slot that takes units is answered with NO_JOB exactly where no job waits that the slot can do.
+-- A grab of a slot that takes units is answered with NO_JOB exactly if no job waits that the slot can do.
 abbrev pub NoJobMeansNoWork : Type 0
 NoJobMeansNoWork = (k : Settings) (steps : List Step) (c number : ℕ) →
     let before = run k steps in

@@ -1,4 +1,4 @@
--- What the words mean that other laws take from the definitions.
+-- The meaning of the words that other laws take from the definitions.
 use Rattle.std.specs.Prelude.{◌≡◌, ℕ, Bool, true, false, List, [], ◌∷◌, codes, Option, Some}
 use Rattle.std.specs.List.{concat}
 use Rattle.gm_notes.specs.declared.note.Note.{Note}
@@ -83,5 +83,5 @@ pub record WordsMean : Type 0 where
   pub one : (a : List ℕ) (more : List (List ℕ)) → first (a ∷ more) ≡ a
   pub two : (a b : List ℕ) (more : List (List ℕ)) → second (a ∷ b ∷ more) ≡ b
   pub three : (a b c : List ℕ) (more : List (List ℕ)) → third (a ∷ b ∷ c ∷ more) ≡ c
-  -- what was sent to a slot is what was queued to it since it was opened, joined
+  -- the bytes sent to a slot are those queued to it since it was opened, joined
   pub all_sent : (flow : List Flow) (c : ℕ) → sent c flow ≡ concat (outputs c flow)

@@ -102,7 +102,7 @@ is_type type =
     (1 ∷ 2 ∷ 3 ∷ 4 ∷ 7 ∷ 9 ∷ 12 ∷ 13 ∷ 14 ∷ 15 ∷ 16 ∷ 18 ∷ 21 ∷ 22 ∷ 23 ∷ 24 ∷ 25 ∷ 26 ∷ 28 ∷ 29 ∷ 30 ∷ 32 ∷ 33 ∷ 34 ∷ [])
 
 pub record RequestsAreRead : Type 0 where
-  -- data are read as a request exactly where they are written so
+  -- data are read as a request exactly if they are written so
   pub read : (type : ℕ) (bytes : List ℕ) (asked : Asked) → IsWritten asked.kind type bytes asked.arguments asked.timeout →
       request_of type bytes ≡ Ok asked
   pub written : (type : ℕ) (bytes : List ℕ) (asked : Asked) → request_of type bytes ≡ Ok asked →

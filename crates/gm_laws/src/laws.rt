@@ -1,4 +1,4 @@
-//! What holds after any steps, under any settings. Each function here is a law: its contract states it, and its body is
+//! Laws of all steps, under any settings. Each function here is a law: its contract states it, and its body is
 //! empty.
 
 ghost use Rattle.gm_notes.specs.Jobs.{made};
@@ -86,7 +86,7 @@ pub fn workers_and_clocks_end_jobs()
 {}
 
 /// In the step that ends a job, each slot gets its end exactly as often as it listened to the job before that step: the
-/// WORK_COMPLETE or WORK_FAIL of its worker, with the job's handle, or WORK_FAIL where a tick ends it, since its
+/// WORK_COMPLETE or WORK_FAIL of its worker, with the job's handle, or WORK_FAIL if a tick ends it, since its
 /// deadline is reached or its last worker disconnected. With `as_gearmand` the job can end with its worker's
 /// WORK_EXCEPTION as well: its end is then the WORK_EXCEPTION for a slot that gets exceptions, and WORK_FAIL for any
 /// other.
@@ -94,8 +94,8 @@ pub fn each_listener_is_told()
     ensures { InEachStep EachListenerIsTold }
 {}
 
-/// WORK_COMPLETE and WORK_FAIL are queued to a slot only as what tells of a job's end, in the step that ends the job,
-/// and only where the slot listens to it. With `as_gearmand` this holds of WORK_EXCEPTION as well.
+/// WORK_COMPLETE and WORK_FAIL are queued to a slot only to report a job's end, in the step that ends the job, and only
+/// if the slot listens to it. With `as_gearmand` this holds of WORK_EXCEPTION as well.
 pub fn only_ends_are_told()
     ensures { InEachStep OnlyEndsAreTold }
 {}
@@ -113,8 +113,8 @@ pub fn who_stays_is_told()
 
 /// A worker's report on the job that it runs is passed on, with the job's handle, exactly as often to each slot as that
 /// listens to the job, in the order in which slots came to listen, and nothing else is queued. WORK_EXCEPTION goes only
-/// to slots with the exceptions option. With `as_gearmand` the others get WORK_FAIL instead after them, as often as they
-/// listen and in the same order.
+/// to slots with the exceptions option. With `as_gearmand` the others get WORK_FAIL instead after them, as often as
+/// they listen and in the same order.
 pub fn what_workers_say_is_passed_on()
     ensures { WhatWorkersSayIsPassedOn }
 {}
@@ -126,15 +126,15 @@ pub fn exceptions_end_jobs()
     ensures { InEachStep ExceptionsEndJobs }
 {}
 
-/// What a slot asks is answered to it alone. Others get only what the worker of a job reports of it, if they listen to
-/// the job, and WORK_FAIL in the tick that ends a job to which they listen. With `as_gearmand` a listener without the
-/// exceptions option gets WORK_FAIL where the worker reports WORK_EXCEPTION. Openings, closings, takings, withdrawals
-/// and drains queue nothing.
+/// A slot's request is answered to that slot only. Others get only what the worker of a job reports of it, if they
+/// listen to the job, and WORK_FAIL in the tick that ends a job to which they listen. With `as_gearmand` a listener
+/// without the exceptions option gets WORK_FAIL if the worker reports WORK_EXCEPTION. Openings, closings, takings,
+/// withdrawals and drains queue nothing.
 pub fn answers_stay_home()
     ensures { InEachStep AnswersStayHome }
 {}
 
-/// A job comes to run at a slot only where the slot grabs, and the job is its pick.
+/// A job comes to run at a slot only if the slot grabs, and the job is its pick.
 pub fn gives_the_pick()
     ensures { InEachStep GivesThePick }
 {}
@@ -164,7 +164,7 @@ pub fn abilities_are_as_asked()
     ensures { InEachStep AbilitiesAreAsAsked }
 {}
 
-/// A grab of a slot that takes units is answered with NO_JOB exactly where no job waits that the slot can do. Otherwise
+/// A grab of a slot that takes units is answered with NO_JOB exactly if no job waits that the slot can do. Otherwise
 /// such a job comes to run there, and fails after the seconds that the slot's ability for its function has, if it has
 /// some.
 pub fn no_job_means_no_work()
@@ -173,7 +173,7 @@ pub fn no_job_means_no_work()
 
 /// With round-robin on, the functions of a worker take turns: between two grabs that give it jobs of one function it is
 /// given a job of each other of its functions, if one waits each time that it is given a job, and if its abilities stay
-/// as they are. Where jobs of both wait all the time, it is given just one of the other in between: two would have one
+/// as they are. When jobs of both wait all the time, it is given just one of the other in between: two would have one
 /// of the first between them, by the same law. With `as_gearmand` this need not be so, since a job of a higher priority
 /// goes before the turn of a function.
 pub fn turns_are_fair()
@@ -185,7 +185,7 @@ pub fn no_job_is_handed_out_more_often()
     ensures { AfterAnySteps NoJobIsHandedOutMoreOften }
 {}
 
-/// A job is lost only where there is a limit and its worker went: it had been handed out as often as the limit says,
+/// A job is lost only if there is a limit and its worker went: it had been handed out as often as the limit says,
 /// it had come back each time before, and was wanted.
 pub fn only_the_last_try_loses()
     ensures { AfterAnySteps OnlyTheLastTryLoses }
@@ -196,13 +196,13 @@ pub fn lost_jobs_end_with_the_next_tick()
     ensures { InEachStep LostJobsEndWithTheNextTick }
 {}
 
-/// NO_JOB is queued only for a grab, and only where there is no pick.
+/// NO_JOB is queued only for a grab, and only if there is no pick.
 pub fn says_no_job_where_none_is()
     ensures { InEachStep SaysNoJobWhereNoneIs }
 {}
 
 /// GET_STATUS of a slot that takes units is answered with whether the job that the handle names waits or runs, whether
-/// it runs, and the numbers of the last WORK_STATUS with its handle of the slot where it ran; or with zeros, where the
+/// it runs, and the numbers of the last WORK_STATUS with its handle of the slot where it ran; or with zeros, if the
 /// handle names none.
 pub fn status_is_true()
     ensures { StatusIsTrue }
@@ -263,7 +263,7 @@ pub fn sleepers_asked_for_it()
 {}
 
 /// After PRE_SLEEP a slot that takes units sleeps, or is owed a NOOP, until it grabs or closes or its NOOP is taken or
-/// withdrawn. Since nobody sleeps beside work, it is owed a NOOP as soon as a job waits that it can do.
+/// withdrawn. No worker sleeps while a job waits that it can do, so it is owed a NOOP as soon as one does.
 pub fn asking_is_enough()
     ensures { InEachStep AskingIsEnough }
 {}
@@ -294,7 +294,7 @@ pub fn first_ability_wins()
 
 /// The closing of an open slot is taken, and nothing else closes a slot. The slot is free then, and listens to no job.
 /// The jobs that ran there wait again or are lost, and those that waited go on waiting, as far as they are wanted;
-/// those that nobody wants are discarded. What runs at other slots goes on.
+/// those that nobody wants are discarded. Jobs that run at other slots go on.
 pub fn closing_closes()
     ensures { InEachStep ClosingCloses }
 {}
@@ -329,9 +329,9 @@ pub fn one_assignment_one_job()
     ensures { InEachStep OneAssignmentOneJob }
 {}
 
-/// A step is refused exactly where something bars it, and then it changes nothing: an opening, where the server is
-/// going down or no slot is free; a packet, a line or a fault, where the slot takes no units; a closing, where the slot
-/// is not open; the taking or the withdrawal of a NOOP, where none is owed. Nothing bars a tick or a drain.
+/// A step is refused exactly if something bars it, and then it changes nothing: an opening, if the server is going down
+/// or no slot is free; a packet, a line or a fault, if the slot takes no units; a closing, if the slot is not open; the
+/// taking or the withdrawal of a NOOP, if none is owed. Nothing bars a tick or a drain.
 pub fn only_the_barred_is_refused()
     ensures { InEachStep OnlyTheBarredIsRefused }
 {}
@@ -342,7 +342,7 @@ pub fn answers_name_what_is_new()
     ensures { InEachStep AnswersNameWhatIsNew }
 {}
 
-/// A packet, a line or a fault of a slot is taken exactly where the slot is open and isn't shut.
+/// A packet, a line or a fault of a slot is taken exactly if the slot is open and isn't shut.
 pub fn who_isnt_shut_is_heard()
     ensures { InEachStep WhoIsntShutIsHeard }
 {}
@@ -360,22 +360,22 @@ pub fn lines_alone_change_the_mode()
 
 /// A job that is kept stays kept, and it becomes so only in a background submission that joins or makes this job. The
 /// same slots listen to a job, in the same order. Only the closing of a slot takes this slot out, and only a foreground
-/// submission that joins or makes this job adds its slot, once and behind the others.
+/// submission that joins or makes this job adds its slot, once and after the others.
 pub fn hearing_and_keeping_stay()
     ensures { InEachStep HearingAndKeepingStay }
 {}
 
-/// What other laws' words mean. A job is live where it waits, runs or is lost, and running where it runs or is lost; it
-/// is wanted where it is kept or some slot listens to it; it joins with any unique id but an empty one and `-`.
-/// Something waits for a function where a job of it waits. A function is mentioned where it is one of those that there
-/// are. A slot is closing where it is open and shut, is owed a NOOP where it is open and its phase is Owed, and gets
-/// exceptions where it is open and has the option. The arguments are the first, the second and the third. What was sent
-/// to a slot is what was queued to it since it was opened, joined.
+/// The meaning of words of other laws. A job is live if it waits, runs or is lost, and running if it runs or is lost;
+/// it is wanted if it is kept or some slot listens to it; it joins with any unique id but an empty one and `-`.
+/// Something waits for a function if a job of it waits. A function is mentioned if it is one of those that there are. A
+/// slot is closing if it is open and shut, is owed a NOOP if it is open and its phase is Owed, and gets exceptions if
+/// it is open and has the option. The arguments are the first, the second and the third. The bytes that were sent to a
+/// slot are those that were queued to it since it was opened.
 pub fn words_mean()
     ensures { WordsMean }
 {}
 
-/// An event withdraws the NOOP of its slot exactly where it is a closing, or reads as GRAB_JOB or GRAB_JOB_UNIQ at a
+/// An event withdraws the NOOP of its slot exactly if it is a closing, or reads as GRAB_JOB or GRAB_JOB_UNIQ at a
 /// slot that isn't closing.
 pub fn withdrawn_for_a_reason()
     ensures { WithdrawnForAReason }
@@ -394,14 +394,14 @@ pub fn lines_are_spelled()
     ensures { LinesAreSpelled }
 {}
 
-/// Two answers that the contract allows to one event after the same steps are equal, or one is Memory, where the other
-/// takes the step and the step is no closing. Each event is the step that it says, what is taken adds its step, and
-/// what is refused adds none.
+/// Two answers that the contract allows to one event after the same steps are equal, or one is Memory, and the other
+/// takes the step, which is no closing. Each event is the step that it says. An event that is taken adds its step,
+/// and a refused one adds none.
 pub fn servers_answer_alike()
     ensures { ServersAnswerAlike }
 {}
 
-/// After a step the functions are those before it, and behind them the one that the step names, if it wasn't there: the
+/// After a step the functions are those before it, and after them the one that the step names, if it wasn't there: the
 /// function of a CAN_DO or CAN_DO_TIMEOUT that its slot can do then, of a job that is new, or of a `maxqueue` that is
 /// answered with `OK`.
 pub fn functions_are_what_was_named()
@@ -409,23 +409,23 @@ pub fn functions_are_what_was_named()
 {}
 
 /// With round-robin on, a slot is given a job of the first of its functions for which one waits, counted from the one
-/// behind the function of the job that it was given last since it was opened, or from the first, where it was given
+/// after the function of the job that it was given last since it was opened, or from the first, if it was given
 /// none that it can still do. With `as_gearmand` it is the first for which a job of the same priority waits.
 pub fn turns_go_round()
     ensures { TurnsGoRound }
 {}
 
 /// A packet of any type with data up to the limit is one unit, whatever follows it, one with more data is too large,
-/// and one with another magic is bad. The data are read as a request exactly where they are the request's arguments,
-/// with a NUL between each two, and perhaps one behind a last argument that is no body. Other types are unknown, and
+/// and one with another magic is bad. The data are read as a request exactly if they are the request's arguments,
+/// with a NUL between each two, and perhaps one after a last argument that is no body. Other types are unknown, and
 /// other data are bad. A line ends with `\n` or `\r\n` and is one unit, and a longer one than the limit says is too
-/// long. A line is read as a command exactly where its words, with any spaces and tabs around them and in any case of
+/// long. A line is read as a command exactly if its words, with any spaces and tabs around them and in any case of
 /// letters, are that command.
 pub fn what_is_spelled_is_read()
     ensures { WhatIsSpelledIsRead }
 {}
 
-/// Settings have no fault exactly where their name is 1 to 40 letters, digits, dots and dashes, their first job is at
+/// Settings have no fault exactly if their name is 1 to 40 letters, digits, dots and dashes, their first job is at
 /// least 1, and they have 1 to 1,024 slots and 1 to 65,536 functions. A fault says which of these doesn't hold.
 pub fn settings_are_checked()
     ensures { SettingsAreChecked }

@@ -1,4 +1,4 @@
-//! What holds of the abstract server: worked rows, which test its definitions, and laws, which say what follows
+//! Theorems about the abstract server: worked rows, which test its definitions, and laws, which say what follows
 //! from them. Nothing here runs: each function has an empty body, and its contract is a row or a law.
 #![tactic(auto)]
 

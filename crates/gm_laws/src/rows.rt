@@ -125,7 +125,7 @@ pub fn workers()
     ensures deadline_forgotten { DeadlineForgotten }
 {}
 
-/// Of connections that come and go, and of what becomes of their jobs.
+/// Of connections that come and go, and of their jobs.
 pub fn connections()
     // An opening gets the least slot that isn't open.
     ensures least_slot { LeastSlot }
@@ -147,13 +147,13 @@ pub fn connections()
     ensures listener_not_inherited { ListenerNotInherited }
     // A slot's next connection doesn't run the last one's jobs, or get its bytes.
     ensures work_not_inherited { WorkNotInherited }
-    // What waits is what was queued since the last drain; a closing drops it.
+    // The waiting bytes are those that were queued since the last drain; a closing drops them.
     ensures bytes_wait { BytesWait }
-    // What was sent to a connection is all that was queued since its opening, drained or not.
+    // The bytes sent to a connection are all that were queued since its opening, drained or not.
     ensures bytes_sent { BytesSent }
     // A job that only the closed connection wanted is gone.
     ensures two_slots { TwoSlots }
-    // A job whose worker disconnects waits again, behind the others.
+    // A job whose worker disconnects waits again, after the others.
     ensures returned_job { ReturnedJob }
     // A job whose last allowed worker disconnects fails in the next tick.
     ensures job_retries { JobRetries }

@@ -1,4 +1,4 @@
--- What closings and ticks do.
+-- The effects of closings and ticks.
 use Rattle.std.specs.Prelude.{ℕ, Bool, false, not, ◌&&◌, nat_le, max, if◌then◌else◌, List, [], ◌∷◌, reverse, Option, Some, None}
 use Rattle.gm_packet.specs.Answers.{work_fail}
 use Rattle.gm_notes.specs.declared.note.Note.TheVariants.{Closed, Returned, Lost, Ended, Discarded, Now}

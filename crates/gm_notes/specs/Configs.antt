@@ -1,4 +1,4 @@
--- What a `Config` means.
+-- The meaning of a `Config`.
 use Rattle.std.specs.Prelude.{◌≡◌, None}
 use Rattle.gm_notes.specs.declared.config.Config.TheInside.{Inside}
 use Rattle.gm_notes.specs.Settings.{Settings, config_fault}

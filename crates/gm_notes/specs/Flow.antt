@@ -1,4 +1,4 @@
--- What happens to the bytes that go to connections: one list, the newest first.
+-- The bytes that go to connections: one list of their events, the newest first.
 use Rattle.std.specs.Prelude.{ℕ, ◌==◌, if◌then◌else◌, List, [], ◌∷◌, ◌++◌}
 
 -- one thing that happens to the bytes of a slot
@@ -16,7 +16,7 @@ sent c (Queued d bytes ∷ older) = if c == d then sent c older ++ bytes else se
 sent c (Drained d ∷ older) = sent c older
 sent c (Emptied d ∷ older) = sent c older
 
--- what was given to slot c since it was opened or drained
+-- the bytes given to slot c since it was opened or drained
 abbrev pub waiting : ℕ → List Flow → List ℕ
 waiting c [] = []
 waiting c (Began d ∷ older) = if c == d then [] else waiting c older

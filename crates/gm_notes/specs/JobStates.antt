@@ -21,7 +21,7 @@ place_of Lost = places.Lost
 place_of Ended = places.Gone
 place_of Discarded = places.Gone
 
--- what may be asked of it, as of its place
+-- questions about it, as about its place
 abbrev pub is_made : JobState → Bool
 is_made state = at.is_made (place_of state)
 

@@ -1,4 +1,4 @@
--- What the notes say of jobs and functions.
+-- Jobs and functions, by the notes.
 use Rattle.std.specs.Prelude.{ℕ, suc, ◌+◌, ◌^◌, Bool, true, false, not, ◌&&◌, ◌||◌, ◌==◌, nat_lt, nat_le, if◌then◌else◌, List, [], ◌∷◌}
 use Rattle.std.specs.Prelude.{◌++◌, length, filter, find, codes, decimal, Option, Some, None}
 use Rattle.std.specs.List.{list_any}
@@ -99,7 +99,7 @@ returns n (Made m f p u body ∷ older) = if n == m then 0 else returns n older
 returns n (Returned m ∷ older) = if n == m then suc (returns n older) else returns n older
 returns n (note ∷ older) = returns n older
 
--- its worker is the last that it is given to, where there is a limit
+-- its worker is the last that it is given to, if there is a limit
 abbrev pub is_last_try : Settings → ℕ → List Note → Bool
 is_last_try k n notes = not (k.retries == 0) && nat_le k.retries (returns n notes + 1)
 
@@ -135,7 +135,7 @@ abbrev pub put : List ℕ → ℕ → List Ability → List Ability
 put f t [] = record { function = f; timeout = t } ∷ []
 put f t (ability ∷ abilities) = if is_of f ability then record { function = f; timeout = t } ∷ abilities else ability ∷ put f t abilities
 
--- what the connection in slot c can do, in the order added
+-- the abilities of the connection in slot c, in the order added
 abbrev pub abilities : ℕ → List Note → List Ability
 abilities c [] = []
 abilities c (Opened d addr ∷ older) = if c == d then [] else abilities c older
@@ -223,7 +223,7 @@ last_function c (Opened d addr ∷ older) = if c == d then None else last_functi
 last_function c (Assigned n d deadline ∷ older) = if c == d then option_map (λ job. job.function) (job n older) else last_function c older
 last_function c (note ∷ older) = last_function c older
 
--- the abilities behind the one for f
+-- the abilities after the one for f
 abbrev pub behind : List ℕ → List Ability → List Ability
 behind f [] = []
 behind f (ability ∷ abilities) = if is_of f ability then abilities else behind f abilities
@@ -233,7 +233,7 @@ abbrev pub up_to : List ℕ → List Ability → List Ability
 up_to f [] = []
 up_to f (ability ∷ abilities) = if is_of f ability then ability ∷ [] else ability ∷ up_to f abilities
 
--- in rotation: those behind the one for f, and then the others up to it; as they are, where none is for f
+-- in rotation: those after the one for f, and then the others up to it; as they are, if none is for f
 abbrev pub rotated : Option (List ℕ) → List Ability → List Ability
 rotated None abilities = abilities
 rotated (Some f) abilities = behind f abilities ++ up_to f abilities
@@ -259,7 +259,7 @@ is_job_named f u (Some job) = bytes_eq job.function f && bytes_eq job.unique u
 abbrev pub is_live_named : List ℕ → List ℕ → List Note → ℕ → Bool
 is_live_named f u notes n = is_live (job_state n notes) && is_job_named f u (job n notes)
 
--- the live job of the function with this unique id; none where the id is empty or a dash
+-- the live job of the function with this unique id; none if the id is empty or a dash
 abbrev pub joined : List ℕ → List ℕ → List Note → Option ℕ
 joined f u notes = if joins u then find (is_live_named f u notes) (made notes) else None
 

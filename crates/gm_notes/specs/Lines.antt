@@ -1,4 +1,4 @@
--- What text lines do.
+-- The effects of text lines.
 use Rattle.std.specs.Prelude.{ℕ, Bool, true, false, not, ◌&&◌, ◌||◌, ◌==◌, nat_lt, if◌then◌else◌, List, [], ◌∷◌, length, map}
 use Rattle.std.specs.Prelude.{filter, Result, Ok, Err}
 use Rattle.std.specs.List.{list_any}
@@ -69,7 +69,7 @@ abbrev pub shutdown : Settings → ℕ → Bool → Past → Past
 shutdown k c true past = with_output c ok_text (go_graceful (mode past.notes) past)
 shutdown k c false past = shut_each (slots_from 0 k.slots) (with_output c ok_text (with_note (Went Stopped) past))
 
--- what a line of slot c does
+-- the effect of a line of slot c
 abbrev pub command : Settings → ℕ → Result Commanded AdminFault → Past → Past
 command k c (Err fault) past = refuse_line c (fault_error fault) past
 command k c (Ok Status) past = with_output c (status_text (status_rows k past.notes)) past

@@ -1,4 +1,4 @@
--- What the notes say of connections and of the server. The notes are one list, the newest first.
+-- Connections and the server, by the notes. The notes are one list, the newest first.
 use Rattle.std.specs.Prelude.{ℕ, zero, suc, Bool, true, false, not, ◌&&◌, ◌==◌, if◌then◌else◌, List, [], ◌∷◌, Option, Some, None, unwrap_or}
 use Rattle.gm_notes.specs.declared.states.Phase.{Phase}
 use Rattle.gm_notes.specs.declared.states.Phase.TheVariants.{Awake, Asleep, Owed}
@@ -8,7 +8,7 @@ use Rattle.gm_notes.specs.declared.note.Note.{Note}
 use Rattle.gm_notes.specs.declared.note.Note.TheVariants.{Opened, Shut, Closed, Named, OptionSet, Slept, Woken, Stirred, Took}
 use Rattle.gm_notes.specs.declared.note.Note.TheVariants.{Withdrew, Now, Went}
 
--- the first answer along the notes, or this one where none says a thing
+-- the first answer along the notes, or this one if none says a thing
 abbrev pub last_said : {A : Type 0} → (Note → Option A) → A → List Note → A
 last_said says otherwise [] = otherwise
 last_said says otherwise (note ∷ older) = unwrap_or (says note) (last_said says otherwise older)

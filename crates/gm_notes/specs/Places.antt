@@ -1,4 +1,4 @@
--- What may be asked of a place, as a server tells it.
+-- Questions about a place, as a server tells it.
 use Rattle.std.specs.Prelude.{ℕ, Bool, true, false, ◌||◌, ◌==◌}
 use Rattle.gm_notes.specs.declared.states.Place.{Place}
 use Rattle.gm_notes.specs.declared.states.Place.TheVariants.{Unmade, Waiting, Running, Lost, Gone}

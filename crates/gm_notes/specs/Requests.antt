@@ -1,4 +1,4 @@
--- What each request does: the table of effects.
+-- The effect of each request: the table of effects.
 use Rattle.std.specs.Prelude.{ℕ, Bool, true, false, if◌then◌else◌, List, [], ◌∷◌, codes, Option, Some, None}
 use Rattle.std.specs.Str.{bytes_eq}
 use Rattle.gm_packet.specs.declared.kind.Kind.{Kind}
@@ -45,7 +45,7 @@ passing answer = record { answer = answer; exceptions_only = false; report = Non
 abbrev pub ending : Answer → Work
 ending answer = record (passing answer) { ends = true }
 
--- what is known of a job: whether it is there, whether it runs, and how far it is
+-- the status of a job: whether it is there, whether it runs, and how far it is
 abbrev pub tell_status : Settings → ℕ → List ℕ → Option ℕ → Past → Past
 tell_status k c text None past = give c (status_res text false false (codes "0") (codes "0")) past
 tell_status k c text (Some n) past =
@@ -57,7 +57,7 @@ abbrev pub set_option : ℕ → List ℕ → Past → Past
 set_option c name past =
     if bytes_eq name (codes "exceptions") then give c (option_res name) (with_note (OptionSet c) past) else refuse c (codes "unknown_option") past
 
--- what a request of slot c does: its kind, its arguments and its timeout
+-- the effect of a request of slot c, by its kind, its arguments and its timeout
 abbrev pub request : Settings → ℕ → Kind → List (List ℕ) → ℕ → Past → Past
 request k c CanDo a timeout past = can_do k c (first a) 0 past
 request k c CanDoTimeout a timeout past = can_do k c (first a) timeout past

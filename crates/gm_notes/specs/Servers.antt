@@ -1,4 +1,4 @@
--- What a job server owes for each call: the contract of `JobServer`.
+-- The contract of `JobServer`, call by call.
 use Rattle.std.specs.Prelude.{◌≡◌, ℕ, ◌≤◌, Bool, ◌&&◌, List, ◌∷◌, length, Option, Some, None, Result, Ok, Err}
 use Rattle.gm_notes.specs.declared.event.Event.{Event}
 use Rattle.gm_notes.specs.declared.event.Event.TheVariants as events
@@ -20,7 +20,7 @@ step_of (events.Fault slot fault) = Fault slot fault
 step_of (events.Close slot) = Close slot
 step_of (events.Tick now) = Tick now
 
--- what the caller that hands in an event has to ensure: a packet has at most 1,073,741,824 bytes of data
+-- the precondition of handing in an event: a packet has at most 1,073,741,824 bytes of data
 abbrev pub IsSized : Event → Type 0
 IsSized (events.Open addr) = Unit {0}
 IsSized (events.Packet slot kind bytes) = length bytes.bytes.now ≤ 1073741824
@@ -37,7 +37,7 @@ IsRefusal NoSlot stands = stands ≡ Some NoSlot
 IsRefusal NotOwed stands = stands ≡ Some NotOwed
 IsRefusal Refusing stands = stands ≡ Some Refusing
 
--- what a step is answered after these steps
+-- the answer to a step after these steps
 abbrev pub Answers : Settings → List Step → Step → Result Done ApplyError → Type 0
 Answers k steps s (Ok answer) = (refusal k s (run k steps) ≡ None) × (answer ≡ done k s (run k steps))
 Answers k steps s (Err refused) = IsRefusal refused (refusal k s (run k steps))
@@ -64,7 +64,7 @@ is_closing c past = is_open c past.notes && is_shut c past.notes
 abbrev pub owes : ℕ → Past → Bool
 owes c past = is_open c past.notes && is_owed (phase c past.notes)
 
--- what the taking or the withdrawal of a NOOP answers after these steps; never Memory
+-- the answer to the taking or the withdrawal of a NOOP after these steps; never Memory
 abbrev pub AnswersAt : Settings → List Step → Step → Result (Unit {0}) ApplyError → Type 0
 AnswersAt k steps s (Ok answer) = refusal k s (run k steps) ≡ None
 AnswersAt k steps s (Err refused) = refusal k s (run k steps) ≡ Some refused

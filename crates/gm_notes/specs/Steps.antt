@@ -46,7 +46,7 @@ abbrev pub opening : Option ℕ → List ℕ → Past → Past
 opening None addr past = past
 opening (Some c) addr past = with_flow (Began c) (with_note (Opened c addr) past)
 
--- what a step adds
+-- the past after one more step
 abbrev pub add : Settings → Step → Past → Past
 add k (Open addr) past = opening (free_slot k past) addr past
 add k (Packet c kind bytes) past = packet_of k c (kind_of kind) bytes past
@@ -97,7 +97,7 @@ unless (Some refused) after before = before
 abbrev pub step : Settings → Step → Past → Past
 step k s past = unless (refusal k s past) (add k s past) past
 
--- what has happened after these steps, the newest first
+-- the past after these steps, the newest first
 abbrev pub run : Settings → List Step → Past
 run k [] = nothing
 run k (s ∷ older) = step k s (run k older)

@@ -1,4 +1,4 @@
--- What submissions do.
+-- The effects of submissions.
 use Rattle.std.specs.Prelude.{ℕ, Bool, not, ◌&&◌, ◌||◌, ◌==◌, nat_lt, nat_le, if◌then◌else◌, List, length, codes, Option, Some, None}
 use Rattle.gm_packet.specs.Answers.{job_created}
 use Rattle.gm_notes.specs.declared.states.Priority.{Priority}
@@ -8,7 +8,7 @@ use Rattle.gm_notes.specs.Settings.{Settings}
 use Rattle.gm_notes.specs.Jobs.{functions, is_mentioned, limit, total, joined, next_number, handle}
 use Rattle.gm_notes.specs.Past.{Past, with_note, give, refuse, with_mention, wake}
 
--- what is submitted
+-- a submission
 pub record Submission : Type 0 where
   pub function : List ℕ
   pub unique : List ℕ

@@ -14,7 +14,7 @@ spaced code = map (λ b. if b == 95 then 32 else b) code
 abbrev pub error_of : List ℕ → Answer
 error_of code = error code (spaced code)
 
--- what a fault prints
+-- the text of a fault
 abbrev pub fault_text : UnitFault → List ℕ
 fault_text BadMagic = answer_packet (error_of (codes "bad_magic"))
 fault_text PacketTooLarge = answer_packet (error_of (codes "packet_too_large"))

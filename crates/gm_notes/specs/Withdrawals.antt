@@ -13,7 +13,7 @@ is_grab GrabJob = true
 is_grab GrabJobUniq = true
 is_grab kind = false
 
--- what was read asks for a job
+-- the request asks for a job
 abbrev pub asks_a_job : Result Asked RequestFault → Bool
 asks_a_job (Ok asked) = is_grab asked.kind
 asks_a_job (Err fault) = false

@@ -1,4 +1,4 @@
--- What the requests of workers do.
+-- The effects of workers' requests.
 use Rattle.std.specs.Prelude.{ℕ, ◌+◌, ◌-◌, ◌^◌, Bool, true, false, not, ◌&&◌, ◌==◌, min, if◌then◌else◌, List, filter, codes}
 use Rattle.std.specs.Prelude.{Option, Some, None}
 use Rattle.gm_packet.specs.Answers.{Answer, no_job, job_assign, job_assign_uniq, work_fail}
@@ -32,7 +32,7 @@ can_do k c f t past =
 abbrev pub cant_do : ℕ → List ℕ → Past → Past
 cant_do c f past = if is_bad_name f then refuse c (codes "bad_function") past else with_note (Cant c f) past
 
--- it doesn't go to sleep beside work
+-- it doesn't go to sleep while a job waits that it can do
 abbrev pub sleep_beside : Option Pick → ℕ → Past → Past
 sleep_beside None c past = past
 sleep_beside (Some found) c past = with_note (Woken c) past
@@ -69,7 +69,7 @@ grab k c uniq past = give_out k c uniq (pick k c past.notes) (wake_itself c past
 
 -- ---- work
 
--- what a WORK packet says of its job: the packet to be passed on, whether only to listeners with the exceptions option,
+-- a WORK packet's report on its job: the packet to be passed on, whether only to listeners with the exceptions option,
 -- the report of how far the job is, if it holds one, and whether the job ends with it
 pub record Work : Type 0 where
   pub answer : Answer

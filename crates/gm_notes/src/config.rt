@@ -82,7 +82,7 @@ fn is_name(name: &[u8]) -> bool
 impl Config {
     /// Settings with this name in job handles, this number for the first job, and at most this many connections and
     /// functions. A worker's functions don't take turns, a job may be given to any number of workers, and requests mean
-    /// what this server's documents say. What is wrong is answered in the order of `ConfigError`. It takes no memory.
+    /// what this server's documents say. The first fault in the order of `ConfigError` is returned. It takes no memory.
     pub fn new(
         name: Vec<u8>,
         first_job: u64,
@@ -116,7 +116,7 @@ impl Config {
     }
 
     /// The same settings, but that a worker's functions take turns, or don't: with it a grab tries the functions
-    /// that the worker added after the one of its last job, then the others in their order, and that one last.
+    /// that the worker added after the one of its last job, then the others in their order, and that function last.
     /// It takes no memory.
     pub fn with_round_robin(self, on: bool) -> Config
         ensures { result ≡ record self { round_robin = on } }

@@ -1,4 +1,4 @@
-//! What is handed to a server, and what it answers.
+//! The events that a server is handed, and its answers.
 
 ghost use Rattle.std.specs.Prelude.{◌≡◌};
 ghost use Rattle.gm_notes.specs.declared.event.ApplyError.TheVariants.{Memory};
@@ -6,7 +6,7 @@ ghost use Rattle.gm_notes.specs.declared.event.ApplyError.TheVariants.{Memory};
 use gm_bytes::Data;
 use std::alloc::{AllocError, AllocFailed};
 
-/// What is wrong with the bytes of a connection, so that no more can be read of them. The numbers are
+/// A fault in the bytes of a connection, after which no more of them can be read. The numbers are
 /// those that the feeder of a connection uses for the same faults.
 #[derive(Clone, Copy, Debug, PartialEq, Eq)]
 pub enum UnitFault {
@@ -71,7 +71,7 @@ impl<T: Drop> From<AllocFailed<T>> for ApplyError {
     }
 }
 
-/// What is handed to a server. A slot is the small number of a connection while it is open.
+/// An event that a server is handed. A slot is the small number of a connection while it is open.
 #[derive(Clone, Copy, Debug)]
 pub enum Event<'a> {
     /// A connection is opened, from this address.
@@ -98,23 +98,23 @@ pub enum Event<'a> {
     Close {
         slot: u32,
     },
-    /// The moment is this one, in seconds, or stays as it is where this one is past.
+    /// The moment is this one, in seconds, or stays as it is if this one is past.
     Tick {
         now: u64,
     },
 }
 
-/// What a step that was taken answers.
+/// The answer to a step that was taken.
 #[derive(Clone, Copy, Debug, PartialEq, Eq)]
 pub struct Done {
     /// The slot that an opening was given.
     pub opened: Option<u32>,
-    /// The number of the job that a submission made; `None` where it joined one.
+    /// The number of the job that a submission made; `None` if it joined one.
     pub created: Option<u64>,
 }
 
 impl Done {
-    /// The answer where no slot was given and no job was made.
+    /// The answer if no slot was given and no job was made.
     pub const NONE: Done = Done {
         opened: None,
         created: None,

@@ -1,4 +1,4 @@
-//! What every job server owes.
+//! The contract of every job server.
 
 ghost use Rattle.std.specs.Prelude.{◌≡◌, List, ◌∷◌};
 ghost use Rattle.std.specs.Result.{IsErrOf};
@@ -24,11 +24,10 @@ use gm_bytes::ByteQueue;
 pub trait JobServer {
     ghost agrees: { Self → Settings → List Step → Type 0 };
 
-    /// Lets an event take effect, and answers what it made. For an opening, `Refusing` comes where the
-    /// server takes no new connections, and then `NoSlot` where every slot is open; for a packet, a line or
-    /// a fault, `NotOpen` where its slot isn't open or is shut; for a closing, `NotOpen` where it isn't open;
-    /// `Memory` only for a step that would otherwise succeed; never for a closing. A packet's data are at
-    /// most 1,073,741,824 bytes.
+    /// Lets an event take effect, and answers what it made. For an opening, `Refusing` comes if the server takes no new
+    /// connections, and then `NoSlot` if every slot is open; for a packet, a line or a fault, `NotOpen` if its slot
+    /// isn't open or is shut; for a closing, `NotOpen` if it isn't open; `Memory` only for a step that would otherwise
+    /// succeed; never for a closing. A packet's data are at most 1,073,741,824 bytes.
     fn apply(&mut self, event: &Event<'_>) -> Result<Done, ApplyError>
         requires { IsSized event.now }
         ensures answers { (k : Settings) (steps : List Step) → agrees self.old k steps
@@ -36,7 +35,7 @@ pub trait JobServer {
             × agrees self.new k (steps_after result (step_of event.now) steps) }
         ensures memory { NeedsNoMemory event.now → IsErrOf result ApplyError.Memory → ⊥ };
 
-    /// Whether a NOOP is owed to the slot; never where it isn't open.
+    /// Whether a NOOP is owed to the slot; never if it isn't open.
     fn owed(&self, slot: u32) -> bool
         ensures { (k : Settings) (steps : List Step) → agrees self.now k steps
             → result ≡ owes slot (run k steps) };
@@ -61,8 +60,8 @@ pub trait JobServer {
         ensures { (k : Settings) (steps : List Step) → agrees self.now k steps
             → result ≡ place_of (job_state job (run k steps).notes) };
 
-    /// The NOOP that is owed to the slot was taken. `NotOpen` comes where the slot isn't open, and then
-    /// `NotOwed` where none is owed. It needs no memory.
+    /// The NOOP that is owed to the slot was taken. `NotOpen` comes if the slot isn't open, and then `NotOwed` if none
+    /// is owed. It needs no memory.
     fn took(&mut self, slot: u32) -> Result<(), ApplyError>
         ensures { (k : Settings) (steps : List Step) → agrees self.old k steps
             → AnswersAt k steps (Took slot) result × agrees self.new k (steps_after_that result (Took slot) steps) };
@@ -72,8 +71,7 @@ pub trait JobServer {
         ensures { (k : Settings) (steps : List Step) → agrees self.old k steps
             → AnswersAt k steps (Withdrew slot) result × agrees self.new k (steps_after_that result (Withdrew slot) steps) };
 
-    /// Takes the bytes that wait for the slot, which wait no more; none where it isn't open. It needs no
-    /// memory.
+    /// Takes the bytes that wait for the slot, which wait no more; none if it isn't open. It needs no memory.
     fn drain(&mut self, slot: u32) -> ByteQueue
         ensures { (k : Settings) (steps : List Step) → agrees self.old k steps
             → (result.bytes ≡ waiting slot (run k steps).flow) × agrees self.new k (Drain slot ∷ steps) };

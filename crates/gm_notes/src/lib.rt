@@ -1,4 +1,4 @@
-//! What the job server means: the definitions, and the contract of every server.
+//! The meaning of the job server: the definitions, and the contract of every server.
 #![tactic(auto)]
 
 mod config;

@@ -27,7 +27,7 @@ impl Text {
         Text { bytes }
     }
 
-    /// Copies the bytes; `AllocError` where there is no memory for them.
+    /// Copies the bytes; `AllocError` if there is no memory for them.
     pub fn copy_of(alloc: Global, bytes: &[u8]) -> Result<Text, AllocError>
         ensures { IfOk result (λ text. text ≡ bytes.now) }
     {

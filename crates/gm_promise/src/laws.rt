@@ -27,24 +27,24 @@ pub fn no_slot_speaks_for_another()
     ensures { NoSlotSpeaksForAnother }
 {}
 
-/// What a session handed in, the units of what it read up to a cut and perhaps the fault behind them, is in the
-/// history, in order.
+/// The events that a session handed in are in the history, in order: the units of the bytes that it read, up to a cut,
+/// and perhaps the fault after them.
 pub fn sessions_are_in_the_history()
     ensures { SessionsAreInTheHistory }
 {}
 
-/// What a slot's pen was given since the slot was opened, followed by what waits still, is what the abstract server
-/// sends; once the slot is closed, a prefix of that.
+/// The bytes that a slot's pen was given since the slot was opened, followed by those that wait still, are the bytes
+/// that the abstract server sends; once the slot is closed, a prefix of them.
 pub fn bytes_are_in_the_history()
     ensures { BytesAreInTheHistory }
 {}
 
-/// A connection's whole life: what was handed in of it are the first units of what was read from it, and what was
-/// written to it is a prefix of what was drained for it, each NOOP behind the bytes of its drain. These bytes, and then
-/// what still waited as the slot was closed, are all that the abstract server sent to it. Each opening of a slot but
-/// one that is still open has its own account of what was read. Each NOOP that the slot's pen took is behind the bytes
-/// of one of these drains, or lost with a connection to which not all was written. What was read and what was written
-/// at one opening went through one socket.
+/// A connection's whole life: the units handed in are the first units of the bytes read from it, and the bytes written
+/// to it are a prefix of those drained for it, each NOOP after the bytes of its drain. The drained bytes, and then
+/// those that still waited when the slot was closed, are all that the abstract server sent to it. Each opening of a
+/// slot but one that is still open has its own account of the bytes read. Each NOOP that the slot's pen took is after
+/// the bytes of one of these drains, or lost with a connection to which not all was written. The bytes read and the
+/// bytes written at one opening went through one socket.
 pub fn connections_are_served()
     ensures { ConnectionsAreServed }
 {}
@@ -82,8 +82,8 @@ pub fn workers_and_clocks_end_jobs()
     ensures { InEachEntry WorkersAndClocksEndJobs }
 {}
 
-/// What a slot asks is answered to it alone. Others get only what the worker of a job reports of it, and WORK_FAIL in a
-/// tick, if they listen to the job.
+/// A slot's request is answered to that slot only. Others get only what the worker of a job reports of it, and
+/// WORK_FAIL in a tick, if they listen to the job.
 pub fn answers_stay_home()
     ensures { InEachEntry AnswersStayHome }
 {}
@@ -112,7 +112,7 @@ pub fn waiting_jobs_are_wanted()
 
 /// Each entry does what its step says. A Close closes its slot, and its jobs wait again, are lost or are discarded. A
 /// slot sleeps, or is owed a NOOP, exactly after a PRE_SLEEP, until it grabs, closes or the NOOP is taken or withdrawn.
-/// JOB_ASSIGN is queued only where the job is given. Each ERROR and `ERR` line has its reason, and only what has a
+/// JOB_ASSIGN is queued only when the job is given. Each ERROR and `ERR` line has its reason, and only what has a
 /// reason is refused. Without `--round-robin` the first ability with a waiting job wins, with `as_gearmand` the first
 /// with one of the job's priority. `status`, `workers`, `version` and ECHO_RES are true, and each connection has the
 /// name that it was given. Exceptions are passed on, ticks are taken, `shutdown` is answered. The answer names what is
