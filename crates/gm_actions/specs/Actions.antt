@@ -1,4 +1,4 @@
--- What actions do, and what is known of the texts in them.
+-- The effects of actions, and the facts of the texts in them.
 use Rattle.std.specs.Prelude.{◌≡◌, ◌⊎◌, ℕ, ◌≤◌, Bool, true, false, ◌&&◌, ◌||◌, codes, List, [], length, Option, Some, None, Result, Ok, Err}
 use Rattle.std.specs.Str.{bytes_eq}
 use Rattle.gm_packet.specs.declared.kind.Kind.{Kind}
@@ -29,12 +29,12 @@ use Rattle.gm_actions.specs.Carried.{IsCarried, AreNumbers}
 
 -- ---- what is handed on, wherever its bytes lie
 
--- what is submitted
+-- the submission of a request
 abbrev pub submission_of : Found → Submission
 submission_of s =
     record { function = s.function.now; unique = s.unique.now; body = s.body.bytes.now; priority = s.priority; background = s.background }
 
--- what a job is
+-- the job of a reference
 abbrev pub job_of : JobRef → Job
 job_of job = record { function = job.function.now; priority = job.priority; unique = job.unique.now; body = job.body.now }
 
@@ -52,7 +52,7 @@ abbrev pub option_report : Option Report → Option (List ℕ × List ℕ)
 option_report None = None
 option_report (Some report) = Some (report_of report)
 
--- what a worker says of its job; an exception ends it where requests mean what gearmand's applications mean by them
+-- a worker's report on its job; an exception ends the job if requests mean what gearmand's applications mean by them
 abbrev pub work_of : Settings → WorkPacket → Work
 work_of k packet =
     record {
@@ -64,11 +64,11 @@ work_of k packet =
 
 -- ---- what is done
 
--- what a request does
+-- the effect of a request
 abbrev pub serve : Settings → ℕ → Asked → Past → Past
 serve k c asked past = request k c asked.kind asked.arguments asked.timeout past
 
--- what an action of slot c does
+-- the effect of an action of slot c
 abbrev pub act : Settings → ℕ → Action → Past → Past
 act k c (CanDo function timeout) past = can_do k c function.now timeout past
 act k c (CantDo function) past = cant_do c function.now past
@@ -144,7 +144,7 @@ acts_without_memory ResetAbilities = true
 acts_without_memory PreSleep = true
 acts_without_memory action = false
 
--- what was read is such an action
+-- the packet was read as such an action
 abbrev pub ActsWithoutMemory : Result Action Refusal → Type 0
 ActsWithoutMemory (Ok action) = acts_without_memory action ≡ true
 ActsWithoutMemory (Err refusal) = ⊥

@@ -1,4 +1,4 @@
--- What a call does to the past that a server holds, in whatever form it holds that.
+-- The effect of a call on the past that a server holds, in whatever form it holds it.
 use Rattle.std.specs.Prelude.{◌≡◌, ℕ, true, false, codes, List, Result, Ok, Err}
 use Rattle.gm_packet.specs.Answers.{status_res}
 use Rattle.gm_notes.specs.Settings.{Settings}

@@ -1,4 +1,4 @@
--- What is done with a line that was read.
+-- The effect of a line that was read.
 use Rattle.std.specs.Prelude.{◌≡◌, ℕ, false, Result, Ok, Err}
 use Rattle.gm_admin.specs.declared.command.Command.{Command}
 use Rattle.gm_admin.specs.declared.command.Command.TheVariants.{MaxQueue}

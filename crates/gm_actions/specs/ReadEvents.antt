@@ -1,4 +1,4 @@
--- What is known of an event whose packet was read.
+-- Facts of an event whose packet was read.
 use Rattle.std.specs.Prelude.{◌≡◌, ℕ, ◌≤◌, Bool, true, false, List, length, Result, Ok, IfOk}
 use Rattle.gm_packet.specs.Kinds.{kind_of}
 use Rattle.gm_packet.specs.Requests.{request_of}
@@ -13,7 +13,7 @@ use Rattle.gm_actions.specs.declared.actions.Action.TheVariants.{Grab}
 use Rattle.gm_actions.specs.declared.refusal.Refusal.{Refusal}
 use Rattle.gm_actions.specs.Actions.{acted, HasGoodNames, CanBeTold, NeedsNoMemory, ActsWithoutMemory}
 
--- what was read asks for a job
+-- the packet asks for a job
 abbrev pub grabs : Result Action Refusal → Bool
 grabs (Ok (Grab with_unique)) = true
 grabs other = false

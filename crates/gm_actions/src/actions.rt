@@ -1,4 +1,4 @@
-//! What packets ask.
+//! The requests of packets, as actions of a server.
 
 ghost use Rattle.std.specs.Prelude.{◌≡◌, ◌&&◌, ◌||◌, None, IsTrue};
 ghost use Rattle.std.specs.Option.{ForSome};
@@ -9,7 +9,7 @@ use gm_bytes::Data;
 use gm_notes::{Config, Priority};
 use gm_packet::Response;
 
-/// What is submitted.
+/// A job as submitted.
 #[derive(Clone, Copy)]
 pub struct Submission<'a> {
     /// The function.
@@ -27,9 +27,9 @@ pub struct Submission<'a> {
 /// How far a job is.
 #[derive(Clone, Copy)]
 pub struct Report<'a> {
-    /// What is done.
+    /// The work that is done.
     pub numerator: &'a [u8],
-    /// What there is to do.
+    /// The whole work.
     pub denominator: &'a [u8],
 }
 
@@ -46,7 +46,7 @@ pub struct WorkPacket<'a> {
     ghost body_ends: { ForSome body (λ body. EndsWith body.bytes.now (answer_of response)) },
     /// Whether it goes only to listeners with the exceptions option.
     pub exceptions_only: bool,
-    /// How far the job is, if that is said; all listeners are told it.
+    /// How far the job is, if that is said; all listeners get it.
     pub report: Option<Report<'a>>,
     ghost told_to_all: { IsTrue exceptions_only → report ≡ None },
     /// Whether the job ends, whatever the settings are.
@@ -54,7 +54,7 @@ pub struct WorkPacket<'a> {
 }
 
 impl WorkPacket<'_> {
-    /// Whether the job ends: an exception ends it where requests mean what gearmand's applications mean by them.
+    /// Whether the job ends: an exception ends it if requests mean what gearmand's applications mean by them.
     pub fn ends_job(&self, config: &Config) -> bool
         ensures { result ≡ (self.now.ends || (self.now.exceptions_only && config.now.as_gearmand)) }
     {
@@ -62,7 +62,7 @@ impl WorkPacket<'_> {
     }
 }
 
-/// What a packet asks a server to do.
+/// An action that a packet asks of a server.
 #[derive(Clone, Copy)]
 pub enum Action<'a> {
     /// The worker can do a function, with this many seconds for each job; 0 is no limit.

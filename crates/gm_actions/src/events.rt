@@ -13,7 +13,7 @@ use gm_notes::Event;
 pub struct ReadEvent<'a> {
     /// The event.
     pub event: Event<'a>,
-    /// What its packet asks; of an event without one it says nothing.
+    /// The action that its packet asks. It has no meaning for an event without a packet.
     pub action: Result<Action<'a>, Refusal>,
 }
 

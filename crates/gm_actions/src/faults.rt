@@ -1,4 +1,4 @@
-//! What is answered where nothing that can be read follows.
+//! The answer to a connection whose stream can't be read any further.
 
 ghost use Rattle.std.specs.Prelude.{◌≡◌, ◌++◌, [], ◌∷◌, OnOk, OnErr};
 ghost use Rattle.gm_packet.specs.Packets.{Fits};

@@ -24,7 +24,7 @@ pub fn handle(alloc: Global, config: &Config, job: u64) -> Result<Vec<u8>, Alloc
     Ok(text)
 }
 
-/// What follows this head of a text, if it begins so.
+/// The rest of a text after this head, if the text begins so.
 fn behind<'a>(text: &'a [u8], head: &[u8]) -> Option<&'a [u8]>
     ensures { MatchOption result ((rest : List ℕ) → text.now ≢ head.now ++ rest) (λ rest. text.now ≡ head.now ++ rest.now) }
 {
@@ -66,7 +66,7 @@ fn number_of(digits: &[u8]) -> Option<u64>
     }
 }
 
-/// The number in a handle; none where the text is no handle.
+/// The number in a handle; none if the text isn't a handle.
 pub fn number_in(config: &Config, text: &[u8]) -> Option<u64>
     ensures value { MatchOption result ((n : ℕ) → n < 2 ^ 64 → text.now ≢ handle config.now n) (λ n. text.now ≡ handle config.now n) }
     ensures small { IfSome result (λ n. n < 2 ^ 64) }

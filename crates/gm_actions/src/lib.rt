@@ -1,5 +1,5 @@
-//! What packets and text lines ask of a server, and what is answered to them whatever it holds: what job servers
-//! of every kind share, however they keep their jobs.
+//! The meaning of packets and text lines, and the answers that don't depend on what a server holds. Job servers of
+//! every kind share them, however they keep their jobs.
 #![tactic(auto)]
 
 mod actions;

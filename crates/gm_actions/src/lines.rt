@@ -12,7 +12,7 @@ ghost use Rattle.gm_actions.specs.Lines.{obeyed, NamesFunction};
 use gm_admin::{AdminError, AdminFault, Command};
 use gm_notes::MAX_NAME;
 
-/// What is answered to a line that is no command.
+/// The answer to a line that isn't a command.
 fn error_of(fault: AdminFault) -> AdminError
     ensures { result ≡ fault_error fault }
 {
@@ -49,7 +49,7 @@ fn limit<'a>(name: &'a [u8], size: u32) -> Result<Command<'a>, AdminError>
     }
 }
 
-/// What a text line commands, or why it is refused whatever the server holds.
+/// The command of a text line, or why it is refused whatever the server holds.
 pub fn read_line<'a>(line: &'a [u8]) -> Result<Command<'a>, AdminError>
     ensures does { (k : Settings) (c : ℕ) (past : Past) → obeyed k c result past ≡ command k c (command_of line.now) past }
     ensures named { IfOk result NamesFunction }

@@ -204,7 +204,7 @@ macro_rules! act_by_kind {
     };
 }
 
-/// What a request asks, or why it is refused whatever the server holds.
+/// The action that a request asks, or why it is refused whatever the server holds.
 fn read_request<'a>(request: &Request<'a>, bytes: &Data<'a>) -> Result<Action<'a>, Refusal>
     requires { IsSpelledBy (asked_of request.now) bytes.now.bytes.now }
     ensures does { (k : Settings) (c : ℕ) (past : Past) → acted k c result past ≡ serve k c (asked_of request.now) past }

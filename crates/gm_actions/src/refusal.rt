@@ -1,4 +1,4 @@
-//! Why a request is refused: what the ERROR packet says.
+//! Why a request is refused: the code and the text of the ERROR packet.
 
 ghost use Rattle.std.specs.Prelude.{◌≡◌, ◌∷◌, []};
 ghost use Rattle.gm_packet.specs.Answers.{answer_of};

@@ -1,4 +1,4 @@
--- What the table of connections is to its callers.
+-- The table of connections, as its callers see it.
 use Rattle.std.specs.Prelude.{◌≡◌, ℕ, ◌<◌, ◌≤◌, ◌==◌, nat_lt, Bool, false, not, ◌&&◌, ◌||◌, if◌then◌else◌, IsTrue}
 use Rattle.std.specs.Prelude.{List, [], length, count_by, slice_index_or}
 use Rattle.gm_notes.specs.Notes.{is_asleep}
@@ -10,7 +10,7 @@ pub record Table : Type 0 where
   pub conns : List Connection
   pub touched : List ℕ
 
--- what is in a slot
+-- the connection in a slot
 abbrev pub in_slot : List Connection → ℕ → Connection
 in_slot conns slot = slice_index_or conns slot closed
 
@@ -53,7 +53,7 @@ pub record LosesAbilities (slot : ℕ) (old new : Table) : Type 0 where
   pub here : conn new slot ≡ record (conn old slot) { abilities = (conn new slot).abilities }
   pub others : (c : ℕ) → (c == slot) ≡ false → conn new c ≡ conn old c
 
--- ---- what is kept beside the connections
+-- ---- what is kept in addition to the connections
 
 -- the slots that can do a function, and how many they are
 pub record Able : Type 0 where
@@ -63,7 +63,7 @@ pub record Able : Type 0 where
 abbrev pub able_of : List Able → ℕ → Able
 able_of able f = slice_index_or able f (record { slots = []; count = 0 })
 
--- What is kept beside the connections is what they say.
+-- The rest of the table agrees with the connections.
 pub record IsKept (conns : List Connection) (able : List Able) (free asleep : List ℕ) : Type 0 where
   pub few : length conns ≤ 1024
   pub frees : (c : ℕ) → has free c ≡ (nat_lt c (length conns) && not (in_slot conns c).is_open)

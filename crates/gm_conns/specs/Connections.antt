@@ -1,4 +1,4 @@
--- What a connection is.
+-- Connections.
 use Rattle.std.specs.Prelude.{ℕ, ◌-◌, Bool, true, false, not, ◌==◌, max, List, [], ◌++◌, filter, nat_eq, is_some, Option, Some, None}
 use Rattle.std.specs.List.{position}
 use Rattle.std.specs.Map.{lookup, keys_of}
@@ -58,7 +58,7 @@ with_last f conn = record conn { last = Some f }
 abbrev pub with_room : ℕ → Connection → Connection
 with_room n conn = record conn { room = max conn.room n }
 
--- the bytes wait behind the others, and take so much of the reserved room
+-- the bytes wait after the others, and take this much of the reserved room
 abbrev pub with_bytes : List ℕ → ℕ → Connection → Connection
 with_bytes bytes cost conn = record conn { waiting = conn.waiting ++ bytes; room = conn.room - cost }
 

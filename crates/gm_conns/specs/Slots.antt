@@ -1,4 +1,4 @@
--- What a set of slots is: sixteen words of sixty-four bits, one for each slot.
+-- Sets of slots: sixteen words of sixty-four bits, one for each slot.
 use Rattle.std.specs.Prelude.{ℕ, ◌/◌, ◌%◌, Bool, ◌==◌, List, slice_index}
 use Rattle.std.specs.Int.{bit_at}
 

@@ -1,4 +1,4 @@
-//! What is known of one connection.
+//! The record of one connection.
 
 ghost use Rattle.std.specs.Prelude.{◌≡◌, ℕ, ◌<◌, ◌==◌, not, ◌&&◌, ◌||◌, IsTrue, IfSome, IfNone, OnOk, OnErr, [], length};
 ghost use Rattle.gm_conns.specs.Connections.{closed, with_ability, without_ability, is_able};
@@ -9,7 +9,7 @@ use indexmap::IndexMap;
 use std::alloc::{AllocError, Global};
 use std::marker::Model;
 
-/// What is known of the connection in a slot. In a slot that isn't open all fields are as `new` makes them.
+/// The record of the connection in a slot. In a slot that isn't open all fields are as `new` makes them.
 #[derive(Drop)]
 pub(crate) struct Conn {
     pub(crate) open: bool,
@@ -23,7 +23,7 @@ pub(crate) struct Conn {
     pub(crate) abilities: IndexMap<u32, u32>,
     /// The function of its last job.
     pub(crate) last: Option<u32>,
-    /// What waits for it.
+    /// The bytes that wait for it.
     pub(crate) queue: ByteQueue,
 }
 

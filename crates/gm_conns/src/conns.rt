@@ -135,7 +135,8 @@ impl Conns {
         self.conns[slot as usize].shut
     }
 
-    /// The connection can do the function, with this timeout. An ability that it had keeps its position.
+    /// The connection can do the function, with this timeout. An ability that it had keeps its position. Out of
+    /// memory, nothing changes.
     pub fn can_do(&mut self, slot: u32, f: u32, timeout: u32) -> Result<(), AllocError>
         requires { IsOpen self.old slot }
         ensures ok { OnOk result (Changes slot (with_ability f timeout) false self.old self.new) }
@@ -261,7 +262,7 @@ impl Conns {
         }
     }
 
-    /// Gives the connection this id.
+    /// Gives the connection this id. Out of memory, nothing changes.
     pub fn set_id(&mut self, slot: u32, id: &[u8]) -> Result<(), AllocError>
         requires { IsOpen self.old slot }
         ensures ok { OnOk result (Changes slot (with_id id.now) false self.old self.new) }

@@ -1,4 +1,4 @@
--- What the past says that tables answer: facts of connections, of functions and of jobs. A note that doesn't concern
+-- The facts of the past that tables answer: those of connections, of functions and of jobs. A note that doesn't concern
 -- them leaves them as they are.
 use Rattle.std.specs.Prelude.{ℕ, Bool, ◌&&◌, List, filter, length, Option}
 use Rattle.gm_notes.specs.declared.states.Phase.{Phase}
@@ -9,7 +9,7 @@ use Rattle.gm_notes.specs.Jobs.{Ability, Job, abilities, functions, limit, made,
 use Rattle.gm_notes.specs.Jobs.{is_kept, listeners, report, deadline, returns, last_function}
 use Rattle.gm_notes.specs.JobStates.{JobState, is_waiting, is_running}
 
--- what is known of the connection in a slot while it is open
+-- the facts of the connection in a slot while it is open
 pub record Seen : Type 0 where
   pub is_shut : Bool
   pub has_option : Bool

@@ -1,4 +1,4 @@
--- What is left to a caller to free: the body of a job that ended.
+-- The memory that a caller is to free: the body of a job that ended.
 use Rattle.std.specs.Prelude.{◌≡◌, ◌⊎◌, ℕ, List, Option, Some, None, IfSome}
 use Rattle.std.specs.Option.{option_map}
 use Rattle.gm_jobs.specs.Tables.{Table, job}

@@ -1,4 +1,4 @@
--- What a core's tables hold, against the definitions.
+-- The contents of a core's tables, by the definitions.
 use Rattle.std.specs.Prelude.{◌≡◌, ℕ, zero, suc, ◌+◌, ◌<◌, ◌≤◌, ◌^◌, true, false, not, ◌&&◌, ◌==◌, if◌then◌else◌, codes, List, [], ◌∷◌, length, map}
 use Rattle.std.specs.Prelude.{filter, slice_get, slice_index_or, Option, Some, None, Bool, Result, Ok, Err, IfOk}
 use Rattle.std.specs.Option.{unwrap_or, option_map}
@@ -39,7 +39,7 @@ name_at names f = slice_index_or names f []
 abbrev pub ability_named : List (List ℕ) → ℕ × ℕ → Ability
 ability_named names ability = record { function = name_at names ability.0; timeout = ability.1 }
 
--- what the table says of a connection, with the functions by name
+-- a connection by the table, with the functions by name
 abbrev pub shown : List (List ℕ) → Connection → Seen
 shown names conn =
     record {
@@ -102,7 +102,7 @@ job_state_at Waiting = states.Waiting
 job_state_at (Running c) = states.Running c
 job_state_at Lost = states.Lost
 
--- how often a job came back, where that is counted: without a limit it isn't
+-- how often a job came back, if that is counted: without a limit it isn't
 abbrev pub counted : ℕ → ℕ → ℕ
 counted limit returns = if limit == 0 then 0 else returns
 
@@ -114,7 +114,7 @@ abbrev pub AreOpen : (ℕ → Bool) → List ℕ → Type 0
 AreOpen is_open [] = Unit {0}
 AreOpen is_open (c ∷ slots) = (is_open c ≡ true) × AreOpen is_open slots
 
--- what is known of a live job
+-- the facts of a live job
 pub record IsJob (names : List (List ℕ)) (live : Live) (facts : JobFacts) (is_open : ℕ → Bool) (n : ℕ) : Type 0 where
   pub function : live.function < length names
   pub job : facts.job n ≡ Some (described names live)
@@ -153,13 +153,13 @@ pub record Holds (k : Settings) (connections : conns.Table) (mentioned : queues.
 abbrev pub Keeps : Tables → Past → Type 0
 Keeps core past = Holds core.config core.conns core.functions core.jobs core.moment core.mode past
 
--- what they hold is what has happened, whatever that was
+-- they hold the past, whatever it was
 abbrev pub IsKept : Tables → Type 0
 IsKept tables = (past : Past) × Keeps tables past
 
 -- ---- what a call does
 
--- what its caller looks after at a connection: the bytes that wait, the phase, and whether it is shut
+-- the part of a connection that a caller looks after: the bytes that wait, the phase, and whether it is shut
 abbrev pub outbox : Connection → List ℕ × Phase × Bool
 outbox conn = (conn.waiting, conn.phase, conn.is_shut)
 
@@ -167,14 +167,14 @@ outbox conn = (conn.waiting, conn.phase, conn.is_shut)
 pub record AllTouched (old new : conns.Table) : Type 0 where
   pub others : (c : ℕ) → is_touched new c ≡ false → (is_touched old c ≡ false) × (outbox (conn new c) ≡ outbox (conn old c))
 
--- what every call promises beside
+-- a further promise of every call
 abbrev pub TouchesAll : Tables → Tables → Type 0
 TouchesAll old new = AllTouched old.conns new.conns
 
 abbrev pub config_of : Tables → Settings
 config_of core = core.config
 
--- the past changes so, whatever it is, and the settings stay; where a slot's outbox changes, the slot is touched
+-- the past changes so, whatever it is, and the settings stay; if a slot's outbox changes, the slot is touched
 abbrev pub Goes : Tables → Tables → (Past → Past) → Type 0
 Goes old new change = Changes config_of Keeps TouchesAll old new change
 

@@ -16,7 +16,7 @@ is_worker f x = x.is_open && is_able f x
 abbrev pub workers : conns.Table → ℕ → ℕ
 workers table f = length (filter (λ c. is_worker f (conn table c)) (slots_from 0 (length table.conns)))
 
--- what the list of functions says of the function of this number
+-- the line of `status` of the function of this number
 abbrev pub status_line_of : conns.Table → queues.Table → ℕ → StatusLine
 status_line_of connections functions f =
     record { name = name_at functions.names f; total = length (waiting_for functions f) + running_of functions f; running = running_of functions f; workers = workers connections f }
@@ -28,7 +28,7 @@ status_lines connections functions = map (status_line_of connections functions) 
 abbrev pub names_of : List (List ℕ) → Connection → List (List ℕ)
 names_of names x = map (λ ability. ability.function) (map (ability_named names) x.abilities)
 
--- what the list of connections says of a slot
+-- the line of `workers` of a slot
 abbrev pub worker_line_of : conns.Table → queues.Table → ℕ → WorkerLine
 worker_line_of connections functions c =
     record { slot = c; addr = (conn connections c).addr; id = (conn connections c).id; functions = names_of functions.names (conn connections c) }

@@ -1,4 +1,4 @@
--- What is queued to several connections at once.
+-- Packets that are queued to several connections at once.
 use Rattle.std.specs.Prelude.{◌≡◌, ℕ, ◌+◌, ◌≤◌, Bool, not, ◌&&◌, ◌||◌, ◌==◌, if◌then◌else◌, List, [], ◌∷◌, ◌++◌, length, false}
 use Rattle.std.specs.Prelude.{Option, Some, None}
 use Rattle.gm_notes.specs.declared.note.Note.{Note}
@@ -8,7 +8,7 @@ use Rattle.gm_jobs.specs.Live.{Live, waits}
 use Rattle.gm_conns.specs.ConnTables.{Table, conn, is_touched}
 use Rattle.gm_core.specs.Holds.{AllTouched}
 
--- whether slot c gets it: it is open, and has the exceptions option where that is needed
+-- whether slot c gets it: it is open, and has the exceptions option if that is needed
 abbrev pub hears : Table → Bool → ℕ → Bool
 hears table exceptions_only c = (conn table c).is_open && (not exceptions_only || (conn table c).has_option)
 

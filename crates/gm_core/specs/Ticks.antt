@@ -10,7 +10,7 @@ use Rattle.gm_core.specs.Telling.{needed}
 use Rattle.gm_core.specs.Writing.{copied_text}
 
 -- these are all live jobs above `after` whose deadlines are reached, in the order of their numbers, each with the
--- packet that tells of its failure
+-- packet that reports its failure
 abbrev pub AreLate : Settings → ℕ → List (ℕ × Live) → ℕ → List Late → Type 0
 AreLate k now live after [] = IsLast (is_due now) after live
 AreLate k now live after (late ∷ rest) =

@@ -1,4 +1,4 @@
--- Texts that are to be queued, and packets whose last argument is put behind the rest.
+-- Texts that are to be queued, and packets whose last argument is put after the rest.
 use Rattle.std.specs.Prelude.{◌≡◌, ℕ, ◌≤◌, Bool, false, IsTrue, List, [], ◌∷◌, length, Option, Some, None}
 use Rattle.gm_packet.specs.Answers.{Answer}
 

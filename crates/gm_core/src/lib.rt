@@ -1,4 +1,4 @@
-//! A job server that answers from tables: what was proved of the abstract server is true of it.
+//! A job server that answers from tables: the theorems about the abstract server hold of it.
 #![tactic(auto)]
 
 mod server;

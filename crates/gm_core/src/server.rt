@@ -37,7 +37,7 @@ use std::alloc::{AllocError, Global};
 use std::hash::RandomState;
 use std::marker::Model;
 
-/// The tables of a server, what it is set to, and what it is about to say.
+/// The tables of a server, its settings, and the text that it is about to queue.
 #[derive(Drop)]
 pub struct Tables {
     alloc: Global,
@@ -47,13 +47,13 @@ pub struct Tables {
     jobs: Jobs,
     moment: u64,
     mode: Mode,
-    // What is to be queued next.
+    // The packet or text to queue next.
     text: Written,
 }
 
 /// The server on tables. It keeps no list of what has happened, and no job that is gone.
 ///
-/// Its tables hold what some steps give, always: so a call needn't ask, say, whether a job that waits is live.
+/// Its tables always hold the past of some steps, so a call needn't ask, say, whether a job that waits is live.
 #[derive(Drop)]
 pub struct Core {
     tables: Tables,
@@ -122,7 +122,7 @@ impl Core {
     }
 
     /// The least slot that was touched since it was last taken, which is taken out. Whatever the core is asked, a slot
-    /// is touched where its waiting bytes, its phase or whether it is shut change.
+    /// is touched when its waiting bytes, its phase or whether it is shut change.
     pub fn take_touched(&mut self) -> Option<u32>
         ensures found { IfSome result (λ slot. IsTrue (is_touched self.old.conns slot)) }
         ensures least { IfSome result (λ slot. (c : ℕ) → c < slot → is_touched self.old.conns c ≡ false) }
@@ -156,7 +156,7 @@ impl Core {
         answer
     }
 
-    /// What the worker in a slot wants; it is awake where the slot isn't open. It takes no memory.
+    /// The phase of the worker in a slot; it is awake if the slot isn't open. It takes no memory.
     pub fn phase(&self, slot: u32) -> Phase
         ensures value { result ≡ (conn self.now.conns slot).phase }
         ensures agrees { (k : Settings) (steps : List Step) → CoreAgrees self.now k steps

@@ -15,7 +15,7 @@ use gm_actions::WorkPacket;
 use gm_conns::Conns;
 use std::alloc::{AllocError, Global};
 
-/// Whether a slot gets it: it is open, and has the exceptions option where that is needed.
+/// Whether a slot gets it: it is open, and has the exceptions option if that is needed.
 fn can_hear(conns: &Conns, slot: u32, exceptions_only: bool) -> bool
     ensures value { result ≡ hears conns.now exceptions_only slot }
     ensures open { IsTrue result → IsOpen conns.now slot }
@@ -23,7 +23,7 @@ fn can_hear(conns: &Conns, slot: u32, exceptions_only: bool) -> bool
     conns.is_open(slot) && (!exceptions_only || conns.has_option(slot))
 }
 
-/// Those of these slots that don't get what is only for connections with the exceptions option.
+/// Those of these slots that don't get packets for connections with the exceptions option.
 pub(crate) fn others(alloc: Global, conns: &Conns, slots: &[u32]) -> Result<Vec<u32>, AllocError>
     ensures { IfOk result (λ others. others.items ≡ filter (λ c. not (hears conns.now true c)) slots.now) }
 {
@@ -69,7 +69,7 @@ pub(crate) fn reserve_each(
     Ok(())
 }
 
-/// Writes the packet that is passed on of a WORK packet, and makes room for it at each of these slots, which listen to
+/// Writes the packet that passes a WORK packet on, and makes room for it at each of these slots, which listen to
 /// the job.
 pub(crate) fn prepare_each(
     conns: &mut Conns,
@@ -89,7 +89,7 @@ pub(crate) fn prepare_each(
     reserve_each(conns, slots, packet.exceptions_only, cost)
 }
 
-/// Queues a text to each of these slots that hears, where there is room.
+/// Queues a text to each of these slots that hears, if there is room.
 pub(crate) fn put_each(conns: &mut Conns, slots: &[u32], exceptions_only: bool, text: &mut Written)
     requires room { (c : ℕ) → needed text.old.cost c (filter (hears conns.old exceptions_only) slots.now) ≤ (conn conns.old c).room }
     requires owned { CanBePut (length slots.now) text.old }

@@ -19,7 +19,7 @@ use std::marker::Model;
 /// The most room that is kept for the next text.
 const MOST_KEPT: usize = 65_536;
 
-/// A packet or a text that is to be queued: bytes that are copied to each queue, and behind them perhaps a body that
+/// A packet or a text that is to be queued: bytes that are copied to each queue, and after them perhaps a body that
 /// the queues share. Contracts see the text, what it costs of a queue's room, and whether it is shared, with how many
 /// owners it has for the queues.
 #[derive(Drop)]
@@ -78,7 +78,7 @@ fn without_body<'a>(response: &Response<'a>) -> Option<Response<'a>>
     }
 }
 
-/// Says in the header of a packet that this many bytes follow behind it, which belong to it.
+/// Says in the header of a packet that this many bytes follow it, which belong to it.
 fn lengthen(packet: &mut Vec<u8>, count: usize)
     requires long { 12 ≤ length packet.old.items }
     requires fits { (length packet.old.items - 12) + count < 2 ^ 32 }
@@ -181,7 +181,7 @@ impl Written {
         }
     }
 
-    /// Queues it to a slot, where there is room.
+    /// Queues it to a slot, if there is room.
     #[inline(always)]
     pub(crate) fn put(&mut self, conns: &mut Conns, slot: u32)
         requires open { IsOpen conns.old slot }

@@ -1,4 +1,4 @@
--- What happens to a server and a feeder when a piece comes.
+-- The effect of a piece on a server and a feeder.
 use Rattle.std.specs.Prelude.{◌≡◌, ◌⊎◌, ℕ, true, List, ◌++◌, length, Option, None}
 use Rattle.gm_feeder.specs.Units.{Item, Spells}
 use Rattle.gm_feeder.specs.Streams.{Stream}
@@ -29,8 +29,8 @@ pub record Unloads {S : Type 0} (agrees : S → Settings → List Step → Type 
   pub sound : unloaded.fault ≡ None → new.fault ≡ None
   pub after : AgreesAfter agrees (λ k steps. with_units k c items steps) unloaded.created server server'
 
--- This many units are at the head of the bytes; they were taken, and slot c would have taken more. What comes next
--- wasn't; or, where there was no memory for the piece, none was.
+-- This many units are at the head of the bytes; they were taken, and slot c would have taken more. The next unit
+-- wasn't; or, if there was no memory for the piece, none was.
 pub record CutsShort {S : Type 0} (agrees : S → Settings → List Step → Type 0) (c : ℕ) (server : S) (old : Stream) (units : ℕ) (server' : S) : Type 0 where
   pub items : List Item
   pub count : length items ≡ units

@@ -43,7 +43,7 @@ pub record IsHeld {S : Type 0} (agrees : S → Settings → List Step → Type 0
   pub limited : front.limits ≡ limits
   pub held : Holds limits (run k reading.steps).notes reading.rests front.feeders.items
 
--- A front agrees with a list of inputs, the newest first, where it holds what they spell.
+-- A front agrees with a list of inputs, the newest first, if it holds what they spell.
 pub record Agrees {S : Type 0} (agrees : S → Settings → List Step → Type 0) (k : Settings) (limits : Limits) (inputs : List Input) (front : Front S) : Type 0 where
   pub reading : Reading
   pub reads : Reads k limits inputs reading
@@ -88,7 +88,7 @@ abbrev pub IsCut : {S : Type 0} → (S → Settings → List Step → Type 0) �
 IsCut agrees k limits (Gives c piece) old units front = IsCutAt agrees k limits c piece units old front
 IsCut agrees k limits other old units front = ⊥
 
--- what an input is answered after these, and what the front holds then
+-- the answer to an input after these, and the front after it
 abbrev pub AnswersInput : {S : Type 0} → (S → Settings → List Step → Type 0) → Settings → Limits → Input → Reading → Result Stepped StepError → Front S → Type 0
 AnswersInput agrees k limits input old (Ok stepped) front = IsTaken agrees k limits input old stepped front
 AnswersInput agrees k limits input old (Err (Refused refused)) front = IsRefused agrees k limits input old refused front

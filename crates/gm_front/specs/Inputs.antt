@@ -1,4 +1,4 @@
--- What inputs spell: the steps that the server takes, and the bytes of each slot that made no unit yet.
+-- The meaning of inputs: the steps that the server takes, and the bytes of each slot that made no unit yet.
 use Rattle.std.specs.Prelude.{◌≡◌, ◌⊎◌, ℕ, Bool, true, false, ◌==◌, if◌then◌else◌, List, [], ◌∷◌, ◌++◌, length, Option, Some, None}
 use Rattle.gm_feeder.specs.declared.units.Limits.{Limits}
 use Rattle.gm_feeder.specs.Units.{Item, Spells}
@@ -27,7 +27,7 @@ pub data Input : Type 0 where
   Withdraws : ℕ → Input  -- the NOOP of this slot is withdrawn
   Drains : ℕ → Input  -- what waits for this slot is taken
 
--- what is handed to a front, wherever its bytes lie
+-- an input of a front, wherever its bytes lie
 abbrev pub input_of : Handed → Input
 input_of (handed.Open addr) = Opens addr.now
 input_of (handed.Piece slot bytes) = Gives slot bytes.now
@@ -42,8 +42,8 @@ abbrev pub cut_after : ℕ → Input → Input
 cut_after units (Gives c piece) = Cuts c piece units
 cut_after units other = other
 
--- what inputs spell: the server's steps, the newest first, and for each slot the bytes that came since it was opened
--- and made no unit yet
+-- the meaning of inputs: the server's steps, the newest first, and for each slot the bytes that came since it was
+-- opened and made no unit yet
 pub record Reading : Type 0 where
   pub steps : List Step
   pub rests : ℕ → List ℕ
@@ -75,7 +75,7 @@ abbrev pub with_units : Settings → ℕ → List Item → List Step → List St
 with_units k c [] steps = steps
 with_units k c (item ∷ items) steps = with_units k c items (handed_in k (step_of_unit k c item) steps)
 
--- a fault of slot c is, where there is one
+-- a fault of slot c is, if there is one
 abbrev pub faulted : Settings → ℕ → Option UnitFault → List Step → List Step
 faulted k c None steps = steps
 faulted k c (Some fault) steps = handed_in k (Fault c fault) steps
@@ -103,13 +103,12 @@ pub record GivesPiece (k : Settings) (limits : Limits) (c : ℕ) (piece : List �
   pub standing : Stands limits rest fault
   pub adds : new ≡ given k c items rest fault old
 
--- slot c is closed; what made no unit goes with it
+-- slot c is closed; bytes that made no unit go with it
 abbrev pub with_closed : ℕ → List Step → (ℕ → List ℕ) → Reading
 with_closed c steps rests = record { steps = Close c ∷ steps; rests = with_rest c [] rests }
 
--- A piece of slot c that was cut: a count of units begins the rest and the piece; they were taken, all of them, and
--- what comes next wasn't, a unit or a fault; or, where there was no memory for the piece, no unit was. Then the slot
--- was closed.
+-- A piece of slot c that was cut: a count of units begins the rest and the piece; they were taken, all of them, and the
+-- next unit or fault wasn't; or, if there was no memory for the piece, no unit was. Then the slot was closed.
 pub record CutsPiece (k : Settings) (limits : Limits) (c : ℕ) (piece : List ℕ) (units : ℕ) (old new : Reading) : Type 0 where
   pub items : List Item
   pub count : length items ≡ units
@@ -132,7 +131,7 @@ refusal_of k (Takes c) old = refusal k (Took c) (run k old.steps)
 refusal_of k (Withdraws c) old = refusal k (Withdrew c) (run k old.steps)
 refusal_of k (Drains c) old = refusal k (Drain c) (run k old.steps)
 
--- what an input adds that is taken: a piece its units, any other one step
+-- the steps that a taken input adds: a piece its units, any other one step
 abbrev pub Adds : Settings → Limits → Input → Reading → Reading → Type 0
 Adds k limits (Opens addr) old new = new ≡ with_step (Open addr) old
 Adds k limits (Gives c piece) old new = GivesPiece k limits c piece old new
@@ -168,7 +167,7 @@ abbrev pub opened_by : Settings → Input → Reading → Option ℕ
 opened_by k (Opens addr) old = free_slot k (run k old.steps)
 opened_by k other old = None
 
--- what an input that is taken answers
+-- the answer to an input that is taken
 abbrev pub done_by : Settings → Input → Reading → Reading → Done
 done_by k input old new = record { opened = opened_by k input old; created = created_since k old.steps new.steps }
 

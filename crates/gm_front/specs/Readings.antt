@@ -1,5 +1,5 @@
 -- How a server reads packets: as this server's documents say, or, with `as_gearmand`, as gearmand's applications mean
--- them. What they mean is said as a packet that this server reads alike.
+-- them. Their meaning is given as a packet that this server reads alike.
 use Rattle.std.specs.Prelude.{ℕ, ◌+◌, ◌/◌, max, Bool, not, ◌&&◌, ◌||◌, ◌==◌, nat_le, if◌then◌else◌, List, [], ◌∷◌, ◌++◌, length, map, codes, decimal}
 use Rattle.std.specs.Prelude.{Option, Some, None}
 use Rattle.std.specs.Char.{to_ascii_lowercase}

@@ -1,4 +1,4 @@
--- What a connection's bytes spell for its slot: units, and the fault behind them.
+-- The units of a slot's bytes: units, and the fault after them.
 use Rattle.std.specs.Prelude.{◌≡◌, ◌⊎◌, ℕ, List, [], ◌∷◌, ◌++◌, map, Option, Some, None}
 use Rattle.gm_feeder.specs.declared.units.Limits.{Limits}
 use Rattle.gm_feeder.specs.declared.units.FeedFault.{FeedFault}
@@ -24,12 +24,12 @@ abbrev pub step_of_unit : Settings → ℕ → Item → Step
 step_of_unit k c (APacket kind bytes) = Packet c (packet_read k.as_gearmand kind bytes).0 (packet_read k.as_gearmand kind bytes).1
 step_of_unit k c (ALine bytes) = Line c bytes
 
--- the step that a fault of slot c is, where there is one
+-- the step that a fault of slot c is, if there is one
 abbrev pub fault_steps : ℕ → Option UnitFault → List Step
 fault_steps c None = []
 fault_steps c (Some fault) = Fault c fault ∷ []
 
--- the steps that these units of slot c are, and the fault behind them
+-- the steps that these units of slot c are, and the fault after them
 abbrev pub steps_of : Settings → ℕ → List Item → Option UnitFault → List Step
 steps_of k c items fault = map (step_of_unit k c) items ++ fault_steps c fault
 
@@ -46,7 +46,7 @@ pub record IsFaultAt (limits : Limits) (rest : List ℕ) (fault : UnitFault) : T
   pub named : unit_fault fed ≡ Some fault
   pub stands : IsFaultOf limits rest fed
 
--- what is at the rest of a stream: this fault, or none and more bytes are waited for
+-- the state at the rest of a stream: this fault, or none, and more bytes are waited for
 abbrev pub Stands : Limits → List ℕ → Option UnitFault → Type 0
 Stands limits rest None = Waits limits rest
 Stands limits rest (Some fault) = IsFaultAt limits rest fault
@@ -80,7 +80,7 @@ pub record GivesFaultAs (old : Stream) (fault : UnitFault) (new : Stream) : Type
   pub named : unit_fault fed ≡ Some fault
   pub gives : GivesFault old fed new
 
--- what comes next, and what is left of the stream
+-- the next unit or fault, and the rest of the stream
 abbrev pub GivesNext : ℕ → Stream → Next → Stream → Type 0
 GivesNext c old (nexts.Unit event) new = GivesEvent c old (step_of event) new
 GivesNext c old nexts.Wait new = GivesNone old new

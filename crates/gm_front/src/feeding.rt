@@ -13,7 +13,7 @@ use gm_feeder::Feeder;
 use gm_notes::{ApplyError, Event, JobServer, UnitFault};
 use std::alloc::AllocError;
 
-/// What came out of a feeder.
+/// The units that came out of a feeder.
 #[derive(Clone, Copy)]
 struct Unloaded {
     /// How many units.
@@ -37,7 +37,7 @@ fn hand_in<S: JobServer>(server: &mut S, event: &Event<'_>) -> Result<Option<u64
     }
 }
 
-/// Hands in an event as gearmand's applications mean it. `hand_in_unit` calls it only where that is asked, because each
+/// Hands in an event as gearmand's applications mean it. `hand_in_unit` calls it only if that is asked, because each
 /// call clears the room for the data.
 #[inline(never)]
 fn hand_in_meant<S: JobServer>(server: &mut S, event: Event<'_>) -> Result<Option<u64>, AllocError>

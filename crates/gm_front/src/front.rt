@@ -55,9 +55,9 @@ impl<S: JobServer> Front<S> {
         })
     }
 
-    /// Takes an input, and answers what came of it.
+    /// Takes an input, and answers its outcome.
     ///
-    /// An input is refused as its step is; a piece with `NotOpen` where its slot isn't open or is shut. Out of memory,
+    /// An input is refused as its step is; a piece with `NotOpen` if its slot isn't open or is shut. Out of memory,
     /// an opening or a tick is refused, and a piece is cut: the units before it stay taken, and the slot is closed. No
     /// other input needs memory. A unit is taken with the piece that brings its last byte.
     pub fn step(&mut self, input: Input<'_>) -> Result<Stepped, StepError>
@@ -86,7 +86,7 @@ impl<S: JobServer> Front<S> {
         &self.server
     }
 
-    /// Whether a NOOP is owed to the slot; never where it isn't open.
+    /// Whether a NOOP is owed to the slot; never if it isn't open.
     pub fn owed(&self, slot: u32) -> bool
         ensures noops_owed { (k : Settings) (limits : Limited) (reading : Reading) → IsHeld S.agrees k limits reading self.now
             → result ≡ owes slot (run k reading.steps) }

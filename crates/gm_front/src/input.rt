@@ -1,4 +1,4 @@
-//! What a front is handed, and what it answers.
+//! The inputs of a front, and its answers.
 
 ghost use Rattle.std.specs.Prelude.{◌≡◌};
 ghost use Rattle.gm_front.specs.declared.input.StepError.TheVariants.{Refused};
@@ -6,7 +6,7 @@ ghost use Rattle.gm_front.specs.declared.input.StepError.TheVariants.{Refused};
 use gm_bytes::ByteQueue;
 use gm_notes::{ApplyError, Done};
 
-/// What comes from outside. A slot is the small number of a connection while it is open.
+/// An input from outside. A slot is the small number of a connection while it is open.
 #[derive(Clone, Copy, Debug)]
 pub enum Input<'a> {
     /// A connection is opened, from this address.
@@ -25,7 +25,7 @@ pub enum Input<'a> {
     Drain(u32),
 }
 
-/// What an input that was taken answers.
+/// The answer to an input that was taken.
 #[derive(Drop)]
 pub struct Stepped {
     /// The slot that an opening was given, and the number of the last job that a piece made.

@@ -1,5 +1,5 @@
-//! What is true of all inputs, and so of every front. Each function here is a law: its contract states it, and its body
-//! is empty.
+//! Laws of all inputs, and so of every front. Each function here is a law: its contract states it, and its body is
+//! empty.
 
 ghost use Rattle.std.specs.Prelude.{◌≡◌, ◌+◌, ◌*◌, ◌<◌, ◌≤◌, ℕ, max, List, [], ◌∷◌, ◌++◌, true, false, Some};
 ghost use Rattle.gm_feeder.specs.declared.units.Limits.{Limits};

@@ -1,4 +1,4 @@
-//! What gearmand's applications mean by their packets, said as packets that a server reads alike.
+//! The meaning that gearmand's applications give their packets, as packets that a server reads alike.
 
 ghost use Rattle.std.specs.Prelude.{◌≡◌, ◌≤◌, [], true, Some, length};
 ghost use Rattle.gm_packet.specs.Requests.{cut};

@@ -1,4 +1,4 @@
-//! What a connection's bytes spell, as events of its slot.
+//! The units that a connection's bytes spell, as events of its slot.
 
 ghost use Rattle.std.specs.Prelude.{◌≡◌, Some};
 ghost use Rattle.std.specs.Borrow.{sem};
@@ -10,7 +10,7 @@ use gm_bytes::Data;
 use gm_feeder::{FeedFault, Feeder, Unit};
 use gm_notes::{Event, UnitFault};
 
-/// What comes next in a connection's bytes.
+/// The next part of a connection's bytes.
 #[derive(Clone, Copy, Debug)]
 pub enum Next<'f> {
     /// A unit, as an event of the slot.

@@ -1,4 +1,4 @@
--- What becomes of one job among all.
+-- Changes of one job among all.
 use Rattle.std.specs.Prelude.{◌≡◌, ℕ, ◌==◌, ◌⊎◌, Bool, true, false, if◌then◌else◌, List}
 use Rattle.std.specs.Option.{option_map}
 use Rattle.gm_jobs.specs.declared.job.Change.{Change}
@@ -14,7 +14,7 @@ changed (Listen slot) live = with_listener slot live
 changed (Leave slot) live = without_listener slot live
 changed (Report numerator denominator) live = reported numerator.now denominator.now live
 
--- what is reported can be carried by packets
+-- packets can carry the report
 abbrev pub CanBeTold : Change → Type 0
 CanBeTold (Report numerator denominator) = AreCarried numerator.now denominator.now
 CanBeTold change = Unit {0}

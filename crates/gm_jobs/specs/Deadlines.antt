@@ -1,4 +1,4 @@
--- What is kept of the moments at which running jobs are due.
+-- The table of the moments at which running jobs are due.
 use Rattle.std.specs.Prelude.{◌≡◌, ℕ, ◌<◌, ◌⊎◌, true, false, List, Contains, Some}
 use Rattle.gm_jobs.specs.Live.{Live, waits}
 use Rattle.gm_jobs.specs.Tables.{find_job}
@@ -10,7 +10,7 @@ pub record DeadlineTable : Type 0 where
   pub waiting : List Pair
   pub reached : HintList
 
--- where the job runs until a deadline, that is here or the job is there, unless some are missing
+-- if the job runs until a deadline, that is here or the job is there, unless some are missing
 abbrev pub IsListed : DeadlineTable → ℕ → Live → Type 0
 IsListed deadlines n live = deadlines.reached.whole ≡ true → (d : ℕ) → waits live.live_place ≡ false → live.deadline ≡ Some d → Has deadlines.waiting d n ⊎ Contains deadlines.reached.numbers n
 

@@ -28,13 +28,13 @@ pub record KeepsHints (Stays : ℕ → Type 0) (old new : HintList) : Type 0 whe
   pub whole : new.whole ≡ true → old.whole ≡ true
   pub numbers : (n : ℕ) → Stays n → Contains old.numbers n → Contains new.numbers n
 
--- the lesser of two numbers, where there are any
+-- the lesser of two numbers, if there are any
 abbrev pub least_of : Option ℕ → Option ℕ → Option ℕ
 least_of None b = b
 least_of (Some a) None = Some a
 least_of (Some a) (Some b) = Some (min a b)
 
--- these numbers, or those of all jobs where some are missing
+-- these numbers, or those of all jobs if some are missing
 abbrev pub numbers_in : HintList → List (ℕ × Live) → List ℕ
 numbers_in hints jobs = if hints.whole then hints.numbers else keys_of jobs
 

@@ -1,4 +1,4 @@
--- What the tables beside the jobs say of them.
+-- What the other tables say of the jobs.
 use Rattle.std.specs.Prelude.{◌≡◌, ℕ, ◌<◌, ◌≤◌, Bool, true, List, Option, Some}
 use Rattle.std.specs.declared.hash.RandomState.{RandomState}
 use Rattle.gm_notes.specs.Jobs.{joins}
@@ -8,7 +8,7 @@ use Rattle.gm_jobs.specs.Deadlines.{DeadlineTable, IsListed}
 use Rattle.gm_jobs.specs.Hints.{HintTable, AllFound}
 use Rattle.gm_jobs.specs.Uniques.{IdTable, LeadsTo, digest_of}
 
--- the tables beside the jobs, and whether a number is left
+-- the other tables, and whether a number is left
 pub record Beside : Type 0 where
   pub seed : RandomState
   pub first : ℕ
@@ -33,7 +33,7 @@ pub record IsReady (b : Beside) (spare : ℕ) : Type 0 where
   pub number : b.left ≡ true
 
 -- The invariant: each live job is in all tables, it is found by each question that it meets, no unique id names two
--- live jobs of one function, and where room is reserved each table has it.
+-- live jobs of one function, and if room is reserved each table has it.
 pub record IsKept (b : Beside) (room : Option Room) (spare : ℕ) (jobs : List (ℕ × Live)) : Type 0 where
   pub known : (n : ℕ) (live : Live) → find_job jobs n ≡ Some live → IsInAllTables b n live
   pub found : AllFound jobs b.index

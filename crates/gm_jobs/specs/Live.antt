@@ -1,4 +1,4 @@
--- What a live job is.
+-- Live jobs.
 use Rattle.std.specs.Prelude.{◌≡◌, ℕ, Bool, true, false, not, ◌&&◌, ◌||◌, ◌==◌, ◌+◌, ◌≤◌, nat_le, if◌then◌else◌, List, [], ◌∷◌, ◌++◌, length, filter}
 use Rattle.std.specs.Prelude.{Option, Some, None}
 use Rattle.std.specs.Str.{bytes_eq}
@@ -13,7 +13,7 @@ use Rattle.gm_jobs.specs.declared.job.Body.{Body}
 use Rattle.gm_jobs.specs.declared.job.Body.TheVariants.{Own, Shared}
 
 -- Its function, priority, unique id and body; whether a background submission keeps it; whether it waits or runs, how
--- often it came back where that is counted, and the moment at which it fails; how far it is, once that was reported;
+-- often it came back if that is counted, and the moment at which it fails; how far it is, once that was reported;
 -- and its listeners, in the order in which they came, once for each time.
 pub record Live : Type 0 where
   pub function : ℕ
@@ -57,7 +57,7 @@ returned limit live = record live { live_place = Waiting; deadline = None; retur
 abbrev pub lost : Live → Live
 lost live = record live { live_place = Lost; deadline = Some 0 }
 
--- its worker is the last that it is given to, where there is a limit; 0 is no limit
+-- its worker is the last that it is given to, if there is a limit; 0 is no limit
 abbrev pub is_last_try : ℕ → Live → Bool
 is_last_try limit live = not (limit == 0) && nat_le limit (live.returns + 1)
 

@@ -1,4 +1,4 @@
--- What a heap of pairs of numbers is, of which the least is first.
+-- A heap of pairs of numbers, the least first.
 use Rattle.std.specs.Prelude.{ℕ, List, [], ◌∷◌, Contains, Option, Some, None}
 use Rattle.std.specs.Ordering.{nat_cmp, ordering_then}
 use Rattle.std.specs.declared.cmp.Ordering.{Ordering}

@@ -1,4 +1,4 @@
--- What may be asked of a job.
+-- The questions about a job.
 use Rattle.std.specs.Prelude.{ℕ, Bool, true, not, ◌==◌}
 use Rattle.std.specs.List.{list_any}
 use Rattle.gm_jobs.specs.declared.job.Query.{Query}

@@ -1,4 +1,4 @@
--- What the table of jobs is to its callers.
+-- The table of jobs, as its callers see it.
 use Rattle.std.specs.Prelude.{◌≡◌, ℕ, ◌+◌, ◌<◌, ◌≤◌, Bool, true, false, ◌&&◌, ◌==◌, nat_le, nat_lt, if◌then◌else◌, List, []}
 use Rattle.std.specs.Prelude.{nat_eq, Option, Some, None, IsSomeAnd}
 use Rattle.std.specs.Option.{option_map, option_map_or}
@@ -38,7 +38,7 @@ find_job live n = lookup (nat_eq n) live
 abbrev pub job : Table → ℕ → Option Live
 job table n = find_job table.live n
 
--- a job's listeners; none, where it isn't live
+-- a job's listeners; none, if it isn't live
 abbrev pub listeners_of : Option Live → List ℕ
 listeners_of None = []
 listeners_of (Some live) = live.listeners
@@ -47,7 +47,7 @@ listeners_of (Some live) = live.listeners
 abbrev pub passes : (Live → Bool) → Option Live → Bool
 passes test found = option_map_or test found false
 
--- what becomes of a job that is given back, by whether that was its last try
+-- the outcome for a job that is given back, by whether that was its last try
 abbrev pub back_of : Bool → Back
 back_of true = backs.Lost
 back_of false = backs.Returned

@@ -18,6 +18,6 @@ pub record IdTable : Type 0 where
   pub clashes : List ℕ
   pub room : ℕ
 
--- The number is looked at where a job of this digest is looked for.
+-- The number is looked at when a job of this digest is looked for.
 abbrev pub LeadsTo : IdTable → ℕ → ℕ → Type 0
 LeadsTo ids digest n = (lookup (nat_eq digest) ids.numbers ≡ Some n) ⊎ Contains ids.clashes n

@@ -66,7 +66,7 @@ fn met_at(jobs: &JobMap, i: usize, query: Query, after: u64) -> Option<u64>
     }
 }
 
-// The lesser of two numbers, where there are any.
+// The lesser of two numbers, if there are any.
 fn least_of(a: Option<u64>, b: Option<u64>) -> Option<u64>
     ensures { result ≡ least_of a b }
 {
@@ -128,7 +128,7 @@ impl Hints {
         self.whole = whole;
     }
 
-    /// One number more; where there is no room for it, it is missing.
+    /// One number more; if there is no room for it, it is missing.
     pub(crate) fn put(&mut self, number: u64)
         ensures kept { KeepsHints (λ n. Unit {0}) self.old self.new }
         ensures stands { IsHinted self.new number }
@@ -168,7 +168,7 @@ impl Hints {
         self.numbers.retain(|number| is_met(jobs, *number, query));
     }
 
-    /// Makes room for one number more: where there is none, lets go of the numbers of jobs that ended, and grows unless
+    /// Makes room for one number more: if there is none, lets go of the numbers of jobs that ended, and grows unless
     /// that made half of the room free.
     pub(crate) fn reserve_one(&mut self, jobs: &JobMap) -> Result<(), AllocError>
         ensures { KeepsHints (λ n. IsSome (find_job jobs.now.entries n)) self.old self.new }
@@ -231,7 +231,7 @@ impl Hints {
         None
     }
 
-    /// The number at this position, or where some are missing that of the job there among all.
+    /// The number at this position, or, if some are missing, that of the job there among all jobs.
     pub(crate) fn number_at(&self, jobs: &JobMap, i: usize) -> Option<u64>
         ensures number { result ≡ slice_get (numbers_in self.now jobs.now.entries) i }
         ensures small { IsSome result → i < 2 ^ 63 }

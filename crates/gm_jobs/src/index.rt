@@ -89,7 +89,7 @@ fn next_run_at(
     next
 }
 
-// The slot doesn't listen any more to the jobs that are hinted at. A job is left once where its hints follow each
+// The slot doesn't listen any more to the jobs that are hinted at. A job is left once if its hints follow each
 // other: leaving it looks at all its listeners.
 fn leave_each(jobs: &mut JobMap, hints: &Hints, slot: u32)
     requires { AllHinted (is_heard_by slot) jobs.old.entries hints.now }

@@ -1,4 +1,4 @@
-//! What is known of one job.
+//! The record of one job.
 
 ghost use Rattle.std.specs.Prelude.{◌≡◌, ◌&&◌, ◌==◌, false, IsOk, IfSome, OnOk, OnErr, Some, None};
 ghost use Rattle.std.specs.Option.{option_map};
@@ -29,7 +29,7 @@ pub struct NewJob<'a> {
     pub listener: Option<u32>,
 }
 
-// What a job is to work on.
+// The body of a job.
 #[derive(Drop)]
 enum Body {
     // Bytes of its own.
@@ -88,12 +88,12 @@ impl LivePlace {
     }
 }
 
-/// What becomes of a job.
+/// A change of a job.
 #[derive(Clone, Copy)]
 pub(crate) enum Change<'a> {
     /// It runs at this slot, until the deadline if there is one.
     Assign(u32, Option<u64>),
-    /// It waits again, or is lost where this was the last worker that it is given to; a limit of 0 is none.
+    /// It waits again, or is lost if this was the last worker that it is given to; a limit of 0 is none.
     GiveBack(u32),
     /// A background submission keeps it.
     Keep,
@@ -105,7 +105,7 @@ pub(crate) enum Change<'a> {
     Report(&'a [u8], &'a [u8]),
 }
 
-/// What is asked of a job.
+/// A question about a job.
 #[derive(Clone, Copy)]
 pub(crate) enum Query {
     /// Whether it waits and nobody wants it.
@@ -176,12 +176,14 @@ impl Job {
         self.f
     }
 
+    /// Its priority.
     pub fn p(&self) -> Priority
         ensures { result ≡ self.now.priority }
     {
         self.p
     }
 
+    /// Its unique id. An empty one, or a dash, names no job.
     pub fn unique(&self) -> &[u8]
         ensures value { result.now ≡ self.now.unique }
         ensures carried { AreCarried result.now self.now.body }
@@ -194,13 +196,14 @@ impl Job {
         self.digest
     }
 
+    /// The body, as it was submitted.
     pub fn body(&self) -> &[u8]
         ensures { result.now ≡ self.now.body }
     {
         self.body.as_slice()
     }
 
-    /// The body, as data that can be shared where others may own them as well.
+    /// The body, as data that can be shared if others may own them as well.
     pub fn data(&self) -> Data<'_>
         ensures { result.bytes.now ≡ self.now.body }
     {
@@ -224,6 +227,7 @@ impl Job {
         self.kept || !self.listeners.is_empty()
     }
 
+    /// Where it is: it waits, runs at a slot, or is lost.
     pub fn place(&self) -> Place
         ensures { result ≡ place_at self.now.live_place }
     {
@@ -292,7 +296,7 @@ impl Job {
         }
     }
 
-    // Whether its worker is the last that it is given to, where a job is given to at most this many workers: it came
+    // Whether its worker is the last that it is given to, if a job is given to at most this many workers: it came
     // back from all but one of them before. A limit of 0 is none.
     fn is_last_try(&self, limit: u32) -> bool
         ensures { result ≡ is_last_try limit self.now }

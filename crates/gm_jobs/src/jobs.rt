@@ -19,7 +19,7 @@ use std::alloc::{AllocError, Global};
 use std::hash::RandomState;
 use std::marker::Model;
 
-/// Why there is no room for a job. What is refused changes nothing.
+/// Why there is no room for a job. A refused call changes nothing.
 #[derive(Clone, Copy, Debug, PartialEq, Eq)]
 pub enum JobError {
     /// There was no memory for it.
@@ -38,7 +38,7 @@ impl From<AllocError> for JobError {
     }
 }
 
-/// What became of a job that its worker gave back.
+/// The state of a job after its worker gave it back.
 #[derive(Clone, Copy, Debug, PartialEq, Eq)]
 pub enum Back {
     /// It waits again.
@@ -50,7 +50,7 @@ pub enum Back {
 /// The live jobs by their numbers.
 ///
 /// A call at a number that no live job has changes nothing. Calls that answer no refusal take no memory. For slots
-/// below 1,024 what a slot runs and listens to is found without a look at other jobs, where `reserve_run` and
+/// below 1,024 what a slot runs and listens to is found without a look at other jobs, if `reserve_run` and
 /// `reserve_listener` came before.
 #[derive(Drop)]
 pub struct Jobs {
@@ -117,7 +117,7 @@ impl Jobs {
     }
 
     /// Makes room for one job more, of this function and with texts of at most these lengths, and gives its number.
-    /// `NumbersSpent` comes where the last number was given out, and otherwise `Memory` if out of memory.
+    /// `NumbersSpent` comes if the last number was given out, and otherwise `Memory` if out of memory.
     pub fn reserve(&mut self, f: u32, unique_len: usize, body_len: usize) -> Result<u64, JobError>
         ensures spent { (result ≡ Err JobError.NumbersSpent) ↔ (self.old.next ≡ 2 ^ 64) }
         ensures number { IfOk result (λ n. n ≡ self.old.next) }
@@ -174,7 +174,7 @@ impl Jobs {
     }
 
     /// The live job of this function with this unique id, and otherwise that there is none, which `insert` takes. There
-    /// is none where the id is empty or a dash.
+    /// is none if the id is empty or a dash.
     pub fn find(&self, f: u32, unique: &[u8]) -> Result<u64, Vacancy>
         ensures found { IfOk result (IsNamed f unique.now self.now) }
         ensures only { IfOk result (λ n. (m : ℕ) → IsNamed f unique.now self.now m → m ≡ n) }
@@ -225,8 +225,8 @@ impl Jobs {
         self.index.put(Query::RunBy(slot), n);
     }
 
-    /// The job waits again, or is lost if that was its last try: where a job is given to at most this many workers
-    /// and it came back from all but one of them before. A limit of 0 is none.
+    /// The job waits again, or is lost if that was its last try: a job is given to at most this many workers, and it
+    /// came back from all but one of them before. A limit of 0 is none.
     pub fn give_back(&mut self, n: u64, limit: u32) -> Back
         ensures back { result ≡ back_of (passes (is_last_try limit) (job self.old n)) }
         ensures changes { Changes n (given_back limit) self.old self.new }
@@ -259,7 +259,7 @@ impl Jobs {
         let _changed = self.jobs.change(n, Change::Keep);
     }
 
-    /// The job is so far: a numerator and a denominator.
+    /// The job is so far: a numerator and a denominator. Out of memory, nothing changes.
     pub fn report(&mut self, n: u64, numerator: &[u8], denominator: &[u8]) -> Result<(), AllocError>
         requires { AreCarried numerator.now denominator.now }
         ensures ok { OnOk result (Changes n (reported numerator.now denominator.now) self.old self.new) }
@@ -278,7 +278,7 @@ impl Jobs {
         }
     }
 
-    /// The slot listens to the job, once more.
+    /// The slot listens to the job, once more. Out of memory, nothing changes.
     pub fn listen(&mut self, n: u64, slot: u32) -> Result<(), AllocError>
         ensures ok { OnOk result (Changes n (with_listener slot) self.old self.new) }
         ensures err { OnErr result (self.new ≡ self.old) }

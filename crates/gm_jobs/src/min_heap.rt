@@ -8,7 +8,7 @@ use std::cmp::Reverse;
 use std::collections::BinaryHeap;
 use std::marker::Model;
 
-/// Pairs of numbers, of which one with the least first number is at hand. Only `reserve` takes memory.
+/// Pairs of numbers. A pair with the least first number is found at once. Only `reserve` takes memory.
 #[derive(Drop)]
 pub(crate) struct MinHeap {
     pairs: BinaryHeap<Reverse<(u64, u64)>>,

@@ -18,7 +18,7 @@ impl JobError {
 }
 
 impl Jobs {
-    /// The live job of this function with this unique id; none where the id is empty or a dash.
+    /// The live job of this function with this unique id; none if the id is empty or a dash.
     pub fn by_unique(&self, f: u32, unique: &[u8]) -> Option<u64>
         ensures found { IfSome result (IsNamed f unique.now self.now) }
         ensures only { IfSome result (λ n. (m : ℕ) → IsNamed f unique.now self.now m → m ≡ n) }

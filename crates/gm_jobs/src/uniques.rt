@@ -22,8 +22,8 @@ pub struct Vacancy {
     pub(crate) digest: u64,
 }
 
-/// The numbers of the jobs whose unique ids name them, by the digests of their functions and ids. What is found is
-/// compared with the job.
+/// The numbers of the jobs whose unique ids name them, by the digests of their functions and ids. A number that is
+/// found is compared with its job.
 #[derive(Drop)]
 pub(crate) struct Uniques {
     numbers: IndexMap<u64, u64, NumberHash>,

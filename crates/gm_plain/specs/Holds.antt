@@ -1,4 +1,4 @@
--- What a plain server holds, against the definitions.
+-- The contents of a plain server, by the definitions.
 use Rattle.std.specs.Prelude.{◌≡◌, ℕ, ◌&&◌, List, [], ◌++◌, Option, Some, None, Result}
 use Rattle.std.specs.List.{slice_index_or}
 use Rattle.gm_packet.specs.Answers.{work_fail}
@@ -17,7 +17,7 @@ pub record Holds (notes : List Note) (outboxes : List (List ℕ)) (past : Past) 
   pub notes_are : notes ≡ past.notes
   pub waiting_are : (c : ℕ) → slice_index_or outboxes c [] ≡ waiting c past.flow
 
--- what contracts see of a server
+-- a server, as contracts see it
 pub record Contents : Type 0 where
   pub config : Settings
   pub notes : List Note

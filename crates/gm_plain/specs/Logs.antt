@@ -19,7 +19,7 @@ pub record Logged : Type 0 where
   pub first : ℕ
   pub free : ℕ
 
--- what a note names can be answered to: slots that there are, and texts that a packet can carry
+-- the slots that a note names are there, and a packet can carry its texts
 abbrev pub NoteFits : ℕ → Note → Type 0
 NoteFits slots (Opened c addr) = c < slots
 NoteFits slots (Listens n c) = c < slots
@@ -71,8 +71,8 @@ jobs_due first notes = total_of (λ n. due_of_job_state (job_state n notes)) fir
 abbrev pub due : ℕ → ℕ → List Note → ℕ
 due slots first notes = slots_due slots notes + jobs_due first notes
 
--- For how many notes an event that adds this one finds memory: for itself, and for those that come of it without
--- memory. What comes of another note is paid for by that.
+-- For how many notes an event that adds this one finds memory: for itself, and for those that it makes possible and
+-- that come without memory. Notes that another note makes possible are paid for by that note.
 abbrev pub weight : Note → ℕ
 weight (Opened c addr) = 2
 weight (Slept c) = 3

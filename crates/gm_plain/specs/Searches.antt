@@ -1,4 +1,4 @@
--- What single notes say, for the searches over them.
+-- Single notes, for the searches over them.
 use Rattle.std.specs.Prelude.{◌≡◌, ℕ, Bool, true, false, not, ◌&&◌, ◌==◌, if◌then◌else◌, List, [], ◌∷◌, ◌++◌, filter, Option, Some, None}
 use Rattle.std.specs.Option.{option_map}
 use Rattle.std.specs.Str.{bytes_eq}
@@ -30,12 +30,12 @@ pub record Knows (n : ℕ) (notes : List Note) (facts : JobFacts) : Type 0 where
   pub returns : facts.returns ≡ returns n notes
   pub deadline : facts.deadline ≡ deadline n notes
 
--- whether the function was mentioned, where the note says so
+-- whether the function was mentioned, if the note says so
 abbrev pub says_mentioned : List ℕ → Note → Option Bool
 says_mentioned f (Mention g) = if bytes_eq g f then Some true else None
 says_mentioned f note = None
 
--- whether slot c can do the function, where the note says so
+-- whether slot c can do the function, if the note says so
 abbrev pub says_able : ℕ → List ℕ → Note → Option Bool
 says_able c f (Opened d addr) = said_of c d false
 says_able c f (Closed d) = said_of c d false
@@ -48,7 +48,7 @@ says_able c f note = None
 abbrev pub ability_of : FoundAbility → Ability
 ability_of found = record { function = found.function.now; timeout = found.timeout }
 
--- what the note changes of the abilities of slot c
+-- the abilities of slot c after the note
 abbrev pub abilities_after : ℕ → Note → List Ability → List Ability
 abilities_after c (Opened d addr) abilities = if c == d then [] else abilities
 abilities_after c (Closed d) abilities = if c == d then [] else abilities
@@ -57,14 +57,14 @@ abilities_after c (Can d f t) abilities = if c == d then put f t abilities else 
 abilities_after c (Cant d f) abilities = if c == d then filter (λ ability. not (is_of f ability)) abilities else abilities
 abilities_after c note abilities = abilities
 
--- what the note changes of the listeners of job n
+-- the listeners of job n after the note
 abbrev pub listeners_after : ℕ → Note → List ℕ → List ℕ
 listeners_after n (Made m f p u body) slots = if n == m then [] else slots
 listeners_after n (Listens m c) slots = if n == m then slots ++ c ∷ [] else slots
 listeners_after n (Closed c) slots = filter (λ d. not (d == c)) slots
 listeners_after n note slots = slots
 
--- whether the connection in slot c listens to job n, where the note says so
+-- whether the connection in slot c listens to job n, if the note says so
 abbrev pub says_listening : ℕ → ℕ → Note → Option Bool
 says_listening n c (Made m f p u body) = said_of n m false
 says_listening n c (Listens m d) = if n == m && c == d then Some true else None
@@ -79,7 +79,7 @@ abbrev pub wakes_for : ℕ → Option Job → List Note → Bool
 wakes_for c None notes = false
 wakes_for c (Some job) notes = is_open c notes && is_asleep (phase c notes) && is_able c job.function notes
 
--- what the note changes of the order in which jobs came to wait
+-- the order in which jobs came to wait after the note
 abbrev pub order_after : Note → List ℕ → List ℕ
 order_after (Made n f p u body) jobs = jobs ++ n ∷ []
 order_after (Returned n) jobs = filter (λ m. not (m == n)) jobs ++ n ∷ []

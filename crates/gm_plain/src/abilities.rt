@@ -1,4 +1,4 @@
-//! What notes say of abilities and queues, found by searching them.
+//! Abilities and queues, found by searching the notes.
 
 ghost use Rattle.std.specs.Prelude.{◌≡◌, Some, true, map, not, ◌&&◌, position, find, IfOk, OnOk, IfSome};
 ghost use Rattle.std.specs.Option.{option_copied};
@@ -101,7 +101,7 @@ fn put<'a>(abilities: &mut Vec<Ability<'a>>, ability: Ability<'a>) -> Result<(),
     Ok(())
 }
 
-/// What a note changes of the abilities of a slot.
+/// Changes the abilities of a slot as a note says.
 fn update_abilities<'a>(
     abilities: &mut Vec<Ability<'a>>,
     note: &'a Note,
@@ -132,7 +132,7 @@ fn update_abilities<'a>(
     Ok(())
 }
 
-/// What the worker in a slot can do, in the order added.
+/// The abilities of the worker in a slot, in the order added.
 pub fn abilities(alloc: Global, log: &Log, slot: u32) -> Result<Vec<Ability<'_>>, AllocError>
     ensures { IfOk result (λ found. map ability_of found.items ≡ abilities slot log.now.notes) }
 {
@@ -144,7 +144,7 @@ pub fn abilities(alloc: Global, log: &Log, slot: u32) -> Result<Vec<Ability<'_>>
     Ok(abilities)
 }
 
-/// What a note changes of the order in which jobs came to wait.
+/// Changes the order in which jobs came to wait as a note says.
 fn update_order(jobs: &mut Vec<u64>, note: &Note) -> Result<(), AllocError>
     ensures { OnOk result (jobs.new.items ≡ order_after note.now jobs.old.items) }
 {
@@ -279,7 +279,7 @@ fn last_function(log: &Log, slot: u32) -> Option<&[u8]>
     let mut notes = log.notes();
     while let Some((note, older)) = notes.split_last() {
         match note {
-            // What an earlier connection in this slot did doesn't count.
+            // The abilities of an earlier connection in this slot don't count.
             Note::Opened { slot: c, .. } if *c == slot => return None,
             // The job was made before it was given out.
             Note::Assigned { job, slot: c, .. } if *c == slot => {
@@ -291,8 +291,8 @@ fn last_function(log: &Log, slot: u32) -> Option<&[u8]>
     None
 }
 
-/// Puts the abilities behind the one for a function first, so that this one comes last. Nothing changes where
-/// none is for it.
+/// Puts the abilities after the one for a function first, so that this one comes last. Nothing changes if none is for
+/// it.
 fn rotate(abilities: &mut Vec<Ability<'_>>, last: &[u8])
     ensures { map ability_of abilities.new.items ≡ rotated (Some last.now) (map ability_of abilities.old.items) }
 {
@@ -301,7 +301,7 @@ fn rotate(abilities: &mut Vec<Ability<'_>>, last: &[u8])
     }
 }
 
-/// What the worker in a slot can do, in the order in which a grab tries it: as added, or with the function of
+/// The abilities of the worker in a slot, in the order in which a grab tries them: as added, or with the function of
 /// its last job at the end.
 fn scan<'a>(
     alloc: Global,

@@ -1,4 +1,4 @@
-//! What notes say of connections and of the server, found by searching them.
+//! Facts of connections and of the server, found by searching the notes.
 
 ghost use Rattle.std.specs.Prelude.{◌≡◌, ◌<◌, ◌∷◌, List, true};
 ghost use Rattle.gm_notes.specs.declared.note.Note.{Note};
@@ -9,7 +9,7 @@ ghost use Rattle.gm_plain.specs.Searches.{Sees};
 use crate::log::Log;
 use gm_notes::{Mode, Note, Phase};
 
-/// What notes say of a slot.
+/// The facts of a slot, by the notes.
 #[derive(Clone, Copy)]
 pub struct SlotFacts<'a> {
     /// Whether it is open.
@@ -26,7 +26,7 @@ pub struct SlotFacts<'a> {
     pub phase: Phase,
 }
 
-/// What is seen of a slot before any note mentions it.
+/// The facts of a slot before any note mentions it.
 const UNSEEN: SlotFacts<'static> = SlotFacts {
     is_open: false,
     is_shut: false,
@@ -36,7 +36,7 @@ const UNSEEN: SlotFacts<'static> = SlotFacts {
     phase: Phase::Awake,
 };
 
-/// What a note changes of what is seen of a slot.
+/// Changes the facts of a slot as a note says.
 fn see<'a>(facts: &mut SlotFacts<'a>, note: &'a Note, slot: u32)
     ensures { (older : List Note) → Sees slot older facts.old → Sees slot (note.now ∷ older) facts.new }
 {
@@ -62,7 +62,7 @@ fn see<'a>(facts: &mut SlotFacts<'a>, note: &'a Note, slot: u32)
     }
 }
 
-/// What notes say of a slot.
+/// The facts of a slot, by the notes.
 pub fn seen(log: &Log, slot: u32) -> SlotFacts<'_>
     ensures value { Sees slot log.now.notes result }
     ensures below { result.is_open ≡ true → slot < log.now.slots }

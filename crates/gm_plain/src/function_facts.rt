@@ -1,4 +1,4 @@
-//! What the log says of functions.
+//! Facts of functions, by the log.
 
 ghost use Rattle.std.specs.Prelude.{◌≡◌, filter, length, map, IfOk};
 ghost use Rattle.gm_notes.specs.Jobs.{functions, is_mentioned, limit, made};

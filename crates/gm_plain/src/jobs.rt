@@ -1,4 +1,4 @@
-//! What notes say of jobs, found by searching them.
+//! Facts of jobs, found by searching the notes.
 
 ghost use Rattle.std.specs.Prelude.{◌≡◌, ◌<◌, ◌≤◌, ◌+◌, ◌^◌, ◌∷◌, List, length, reverse, slice_get, Some, IfSome, IfOk, OnOk};
 ghost use Rattle.std.specs.Option.{option_map};
@@ -20,10 +20,10 @@ use gm_actions::{JobRef, Report, number_in};
 use gm_notes::{Config, Note, Place, is_joining};
 use std::alloc::{AllocError, Global};
 
-/// What notes say of a job.
+/// The facts of a job, by the notes.
 #[derive(Clone, Copy)]
 pub struct JobFacts<'a> {
-    /// What it is, once it was made.
+    /// The job, once it was made.
     pub job: Option<JobRef<'a>>,
     /// Where it is.
     pub place: Place,
@@ -37,7 +37,7 @@ pub struct JobFacts<'a> {
     pub deadline: Option<u64>,
 }
 
-/// What is known of a job before any note mentions it.
+/// The facts of a job before any note mentions it.
 const UNKNOWN: JobFacts<'static> = JobFacts {
     job: None,
     place: Place::Unmade,
@@ -50,7 +50,7 @@ const UNKNOWN: JobFacts<'static> = JobFacts {
     deadline: None,
 };
 
-/// What a note changes of what is known of a job.
+/// Changes the facts of a job as a note says.
 fn learn<'a>(facts: &mut JobFacts<'a>, note: &'a Note, job: u64)
     requires { facts.old.returns < 2 ^ 63 }
     ensures knows { (older : List Note) → Knows job older facts.old → Knows job (note.now ∷ older) facts.new }
@@ -105,7 +105,7 @@ fn learn<'a>(facts: &mut JobFacts<'a>, note: &'a Note, job: u64)
     }
 }
 
-/// What these notes, the newest last, say of a job.
+/// The facts of a job, by these notes, the newest last.
 pub fn known_in(notes: &[Note], job: u64) -> JobFacts<'_>
     ensures knows { Knows job (reverse notes.now) result }
     ensures small { result.returns < 2 ^ 63 }
@@ -117,7 +117,7 @@ pub fn known_in(notes: &[Note], job: u64) -> JobFacts<'_>
     facts
 }
 
-/// What notes say of a job.
+/// The facts of a job, by the notes.
 pub fn known(log: &Log, job: u64) -> JobFacts<'_>
     ensures knows { Knows job log.now.notes result }
     ensures small { result.returns < 2 ^ 63 }
@@ -134,7 +134,7 @@ pub fn place(log: &Log, job: u64) -> Place
     known(log, job).place
 }
 
-/// What the job is.
+/// The job as it was made.
 pub fn job(log: &Log, number: u64) -> Option<JobRef<'_>>
     ensures value { option_map job_of result ≡ job number log.now.notes }
     ensures carried { IfSome result (λ found. IsCarried found.function.now found.unique.now found.body.now) }
@@ -142,7 +142,7 @@ pub fn job(log: &Log, number: u64) -> Option<JobRef<'_>>
     known(log, number).job
 }
 
-/// What a note changes of a job's listeners.
+/// Changes a job's listeners as a note says.
 fn update_listeners(slots: &mut Vec<u32>, note: &Note, job: u64) -> Result<(), AllocError>
     ensures { OnOk result (slots.new.items ≡ listeners_after job note.now slots.old.items) }
 {
@@ -197,7 +197,7 @@ pub fn is_wanted(log: &Log, job: u64) -> bool
     known(log, job).is_kept
 }
 
-/// Whether the worker of a job is the last that it is given to, where there is a limit.
+/// Whether the worker of a job is the last that it is given to, if there is a limit.
 pub fn is_last_try(config: &Config, log: &Log, job: u64) -> bool
     ensures { result ≡ is_last_try config.now job log.now.notes }
 {
@@ -282,7 +282,7 @@ pub fn newest(log: &Log) -> Option<u64>
     newest
 }
 
-/// The number of the next job, where the first has this number; `None` once the last was given out.
+/// The number of the next job, if the first has this number; `None` once the last was given out.
 pub fn next_number(log: &Log, config: &Config) -> Option<u64>
     ensures { result ≡ next_number config.now log.now.notes }
 {

@@ -58,7 +58,7 @@ fn names_of<'a>(alloc: Global, abilities: &[Ability<'a>]) -> Result<Vec<&'a [u8]
     Ok(names)
 }
 
-/// What the list of connections says of one.
+/// A connection's line of `workers`.
 fn worker_of(alloc: Global, log: &Log, slot: u32) -> Result<WorkerRow<'_>, AllocError>
     ensures { IfOk result (λ row. worker_of row ≡ worker_line_of log.now.notes slot) }
 {

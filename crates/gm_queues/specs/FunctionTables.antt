@@ -1,4 +1,4 @@
--- What the table of functions is to its callers.
+-- The table of functions, as its callers see it.
 use Rattle.std.specs.Prelude.{◌≡◌, ℕ, ◌+◌, ◌*◌, ◌<◌, ◌≤◌, ◌==◌, Bool, false, ◌&&◌, if◌then◌else◌, Option}
 use Rattle.std.specs.Prelude.{List, [], ◌++◌, length, position, slice_index, slice_index_or}
 use Rattle.std.specs.Str.{bytes_eq}

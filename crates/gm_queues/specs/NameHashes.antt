@@ -1,4 +1,4 @@
--- What the hash of a function's name is.
+-- The hash of a function's name.
 use Rattle.std.specs.Prelude.{ℕ, ◌*◌, ◌%◌, ◌^◌, List, [], ◌∷◌, if◌then◌else◌, nat_lt, bit_or}
 use Rattle.std.specs.List.{fold}
 use Rattle.std.specs.Hash as fed
@@ -11,11 +11,11 @@ use Rattle.gm_queues.specs.declared.name_hash.NameHasher.{NameHasher}
 abbrev pub new_hasher : RandomState → NameHasher
 new_hasher seed = record { words = initial_hasher seed; tail = 1 }
 
--- the tail, and behind it a byte
+-- the tail, and after it a byte
 abbrev pub longer : ℕ → ℕ → ℕ
 longer tail byte = bit_or ((tail * 2 ^ 8) % 2 ^ 64) byte
 
--- a byte more: seven bytes behind a one are a word
+-- a byte more: seven bytes after a one are a word
 abbrev pub with_byte : NameHasher → ℕ → NameHasher
 with_byte hasher byte =
     if nat_lt (longer hasher.tail byte) 0x0100_0000_0000_0000

@@ -1,4 +1,4 @@
--- What a queue of waiting jobs is.
+-- Queues of waiting jobs.
 use Rattle.std.specs.Prelude.{◌≡◌, ℕ, ◌+◌, ◌-◌, List, [], ◌∷◌, ◌++◌, length, drop, Option, Some, None}
 
 -- the waiting jobs in their order, and for how many jobs room is reserved: for these, and for those that may come

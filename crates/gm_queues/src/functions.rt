@@ -225,7 +225,7 @@ impl Functions {
         self.limits[f as usize] = size;
     }
 
-    /// Reserves room for one job more.
+    /// Reserves room for one job more. Out of memory, nothing changes.
     pub fn reserve_one(&mut self, f: u32, p: Priority) -> Result<(), AllocError>
         requires { f < length self.old.names }
         ensures ok { OnOk result (ChangesQueue f p with_reserved_one self.old self.new) }

@@ -17,10 +17,10 @@ struct Link {
 
 /// Where jobs may be in a ring of waiting jobs: a hash table whose chains go from the newest job to the oldest.
 ///
-/// An entry's position is the count of the entries that were added before it. A position that left the ring at
-/// its front stays in the chains, and ends each search that comes to it, since all that follow it are older. So
-/// nothing is ever taken out, and no call but `with_room` takes memory. What is found is compared with the
-/// ring: a wrong guess costs time, and nothing else.
+/// An entry's position is the count of the entries that were added before it. A position that left the ring at its
+/// front stays in the chains, and ends each search that comes to it, since all that follow it are older. So nothing is
+/// ever taken out, and no call but `with_room` takes memory. A guess is compared with the ring: a wrong one costs time,
+/// and nothing else.
 #[derive(Drop)]
 pub(crate) struct Guesses {
     links: Vec<Link>,

@@ -5,7 +5,7 @@ ghost use Rattle.gm_queues.specs.NameHashes.{with_byte};
 
 use std::hash::{BuildHasher, DefaultHasher, Hasher, RandomState};
 
-/// Where a tail is full: seven bytes behind a one.
+/// The least full tail: a one, and then seven bytes.
 const FULL: u64 = 0x0100_0000_0000_0000;
 
 /// Hashes the names of functions. They are untrusted input, so it does so with a seed. A name's bytes come one by one,
@@ -28,7 +28,7 @@ impl NameHash {
 #[derive(Clone, Copy)]
 pub(crate) struct NameHasher {
     words: DefaultHasher,
-    /// A one, and behind it the bytes that the words lack.
+    /// A one, and after it the bytes that the words lack.
     tail: u64,
 }
 

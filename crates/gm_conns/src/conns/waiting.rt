@@ -20,7 +20,7 @@ impl Conns {
         conn.queue.reserve(n)
     }
 
-    /// The bytes wait for the connection, behind the others, in reserved room.
+    /// The bytes wait for the connection, after the others, in reserved room.
     #[inline(always)]
     pub fn put_out(&mut self, slot: u32, bytes: &[u8])
         requires open { IsOpen self.old slot }
@@ -32,7 +32,7 @@ impl Conns {
         self.touched.insert(slot);
     }
 
-    /// The head and the tail wait for the connection, behind the others, in reserved room: the tail, which is shared,
+    /// The head and the tail wait for the connection, after the others, in reserved room: the tail, which is shared,
     /// takes `SHARED_ROOM` of it.
     pub fn put_shared(&mut self, slot: u32, head: &[u8], tail: SharedBytes)
         requires open { IsOpen self.old slot }
@@ -44,7 +44,7 @@ impl Conns {
         self.touched.insert(slot);
     }
 
-    /// What waits for the connection.
+    /// The bytes that wait for the connection.
     pub fn waiting(&self, slot: u32) -> &ByteQueue
         requires { IsOpen self.now slot }
         ensures bytes { result.now.bytes ≡ (conn self.now slot).waiting }

@@ -1,4 +1,4 @@
-//! What workers can do, how they sleep, and the job that each gets.
+//! The workers' abilities, their sleep, and the job that each gets.
 
 ghost use Rattle.std.specs.Prelude.{◌≡◌, ◌<◌, ◌≤◌, ◌++◌, false, Some, None, IfSome, length, map, drop, take, slice_get};
 ghost use Rattle.std.specs.Option.{option_map};
@@ -30,7 +30,7 @@ pub(super) struct Choice {
 impl Tables {
     ghost use Rattle.gm_core.specs.Holds.{IsKept, Keeps, Goes, Does};
 
-    /// How many of a slot's `len` abilities are tried last: where functions take turns, those up to the one of its last
+    /// How many of a slot's `len` abilities are tried last: if functions take turns, those up to the one of its last
     /// job.
     fn tried_last(&self, slot: u32, len: usize) -> usize
         requires open { IsOpen self.now.conns slot }
@@ -174,7 +174,7 @@ impl Tables {
         }
     }
 
-    /// The worker in a slot wants to sleep; beside work it is woken at once.
+    /// The worker in a slot wants to sleep; if a job waits that it can do, it is woken at once.
     pub(super) fn pre_sleep(&mut self, slot: u32)
         requires open { IsOpen self.old.conns slot }
         requires kept { IsKept self.old }

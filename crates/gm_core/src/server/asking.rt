@@ -1,4 +1,4 @@
-//! What is known of jobs.
+//! The answer to GET_STATUS: a job's status, by its handle.
 
 ghost use Rattle.std.specs.Prelude.{◌≡◌, ℕ, ◌<◌, ◌^◌, codes};
 ghost use Rattle.std.specs.Option.{unwrap_or};
@@ -14,7 +14,7 @@ use gm_actions::{Report, known_status, number_in, unknown_status};
 use gm_jobs::Job;
 use std::alloc::AllocError;
 
-/// How far a job is: a numerator and a denominator, `0` and `0` until it is told.
+/// How far a job is: a numerator and a denominator, `0` and `0` before the first report.
 fn report_of(job: &Job) -> Report<'_>
     ensures value { report_of result ≡ unwrap_or job.now.report (codes "0", codes "0") }
     ensures carried { AreCarried result.numerator.now result.denominator.now }
@@ -29,7 +29,7 @@ fn report_of(job: &Job) -> Report<'_>
 impl Tables {
     ghost use Rattle.gm_core.specs.Holds.{Does};
 
-    /// Tells a slot what is known of the job that a handle names.
+    /// Tells a slot the status of the job that a handle names.
     pub(super) fn tell_status(&mut self, slot: u32, handle: &[u8]) -> Result<(), AllocError>
         requires open { IsOpen self.old.conns slot }
         requires word { IsWord handle.now }

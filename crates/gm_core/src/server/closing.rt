@@ -54,7 +54,7 @@ impl Tables {
         }
     }
 
-    /// The connection in a slot goes, with what waited for it. It needs no memory.
+    /// The connection in a slot goes, with the bytes that waited for it. It needs no memory.
     fn leave(&mut self, slot: u32)
         requires { IsOpen self.old.conns slot }
         ensures { Goes self.old self.new (disconnect slot) }
@@ -89,8 +89,8 @@ impl Tables {
         }
     }
 
-    /// The connection in a slot goes, with what waited for it; its jobs wait again, are lost, or go too. It needs no
-    /// memory.
+    /// The connection in a slot goes, with the bytes that waited for it; its jobs wait again, are lost, or go too. It
+    /// needs no memory.
     pub(super) fn close(&mut self, slot: u32) -> Result<Done, ApplyError>
         requires { IsKept self.old }
         ensures answers { (k : Settings) (steps : List Step) → CoreAgrees self.old k steps

@@ -1,4 +1,4 @@
-//! What administrators command in text lines.
+//! The administrators' commands in text lines.
 
 ghost use Rattle.std.specs.Prelude.{◌≡◌, true, false, List, Ok, IfOk};
 ghost use Rattle.gm_admin.specs.Answers.{ok_text, version_text};
@@ -46,7 +46,7 @@ impl Tables {
         Ok(Done::NONE)
     }
 
-    /// What a line of a slot commands is done.
+    /// Carries out the command of a slot's line.
     fn command(&mut self, slot: u32, bytes: &[u8]) -> Result<(), AllocError>
         requires open { IsOpen self.old.conns slot }
         requires kept { IsKept self.old }

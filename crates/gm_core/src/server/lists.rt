@@ -22,7 +22,7 @@ fn workers(conns: &Conns, f: u32) -> u32
     conns.able_count(f)
 }
 
-/// What the list of functions says of one.
+/// A function's line of `status`.
 fn status_row<'a>(conns: &Conns, functions: &'a Functions, f: u32) -> StatusRow<'a>
     requires { f < length functions.now.names }
     ensures { status_of result ≡ status_line_of conns.now functions.now f }
@@ -71,7 +71,7 @@ fn names_of<'a>(
     Ok(names)
 }
 
-/// What the list of connections says of one.
+/// A connection's line of `workers`.
 fn worker_row<'a>(
     alloc: Global,
     conns: &'a Conns,
@@ -142,7 +142,7 @@ impl Tables {
         self.say(slot, text)
     }
 
-    /// Every connection is listed, with what it can do.
+    /// Every connection is listed, with its functions.
     pub(super) fn list_connections(&mut self, slot: u32) -> Result<(), AllocError>
         requires open { IsOpen self.old.conns slot }
         requires kept { IsKept self.old }

@@ -1,4 +1,4 @@
-//! What connections say of themselves.
+//! Requests by which connections describe themselves.
 
 ghost use Rattle.std.specs.Prelude.{◌≡◌, true, codes};
 ghost use Rattle.std.specs.Str.{bytes_eq};

@@ -28,7 +28,7 @@ impl Tables {
         })
     }
 
-    /// Nothing that can be read follows in a slot: it is told why, and takes no more units.
+    /// A slot's stream can't be read any further: the slot is answered why, and takes no more units.
     pub(super) fn fault(&mut self, slot: u32, fault: UnitFault) -> Result<Done, ApplyError>
         ensures answers { (k : Settings) (steps : List Step) → CoreAgrees self.old k steps
             → Answers k steps (Fault slot fault) result × CoreAgrees self.new k (steps_after result (Fault slot fault) steps) }

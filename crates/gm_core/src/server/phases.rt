@@ -1,4 +1,4 @@
-//! What a connection is ready for: whether it takes units, whether its worker sleeps, and whether it is owed a NOOP.
+//! The phase of a connection: whether it takes units, whether its worker sleeps, and whether it is owed a NOOP.
 
 ghost use Rattle.std.specs.Prelude.{◌≡◌, Some, None, IsTrue, OnOk, MatchResult};
 ghost use Rattle.gm_conns.specs.ConnTables.{IsOpen};

@@ -37,7 +37,7 @@ fn is_limit_reached(limit: u32, counts: Counts) -> bool
 impl Tables {
     ghost use Rattle.gm_core.specs.Holds.{IsKept, Keeps, MakesNone, Goes, Does, Makes};
 
-    /// Joins a job, or makes one; gives that which it made.
+    /// Joins a job, or makes one; gives the one that it made.
     pub(super) fn submit(
         &mut self,
         slot: u32,
@@ -162,7 +162,7 @@ impl Tables {
         let response = Response::JobCreated { handle: &handle };
         prepare(&mut self.conns, &mut self.text, slot, &response, None)?;
         self.functions.reserve_one(f, asked.priority)?;
-        // What follows needs no memory.
+        // The rest needs no memory.
         let new = NewJob {
             f,
             p: asked.priority,
@@ -178,7 +178,7 @@ impl Tables {
         Ok(job)
     }
 
-    /// No job was made: the slot is refused where no number was left.
+    /// No job was made: the slot is refused if no number was left.
     fn refuse_job(&mut self, slot: u32, error: JobError) -> Result<Option<u64>, AllocError>
         requires { IsOpen self.old.conns slot }
         ensures does { Does self.old result self.new (refuse slot (codes "no_numbers")) }

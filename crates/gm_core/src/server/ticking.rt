@@ -23,7 +23,7 @@ use gm_packet::{Response, write_response};
 use std::alloc::{AllocError, Global};
 use std::collections::VecDeque;
 
-/// The packet that tells of a job's failure.
+/// The packet that reports a job's failure.
 pub(super) fn fail_packet(alloc: Global, config: &Config, job: u64) -> Result<Vec<u8>, AllocError>
     ensures { IfOk result (λ packet. packet.items ≡ answer_packet (work_fail (handle config.now job))) }
 {
@@ -33,7 +33,7 @@ pub(super) fn fail_packet(alloc: Global, config: &Config, job: u64) -> Result<Ve
     Ok(packet)
 }
 
-/// A job whose deadline is reached, and the packet that tells of its failure.
+/// A job whose deadline is reached, and the packet that reports its failure.
 #[derive(Drop)]
 struct Late {
     job: u64,
@@ -43,7 +43,7 @@ struct Late {
 impl Tables {
     ghost use Rattle.gm_core.specs.Holds.{IsKept, Goes, AllTouched, CoreAgrees};
 
-    /// Writes the packet that tells of a job's failure, and makes room for it at each listener, beyond the room that
+    /// Writes the packet that reports a job's failure, and makes room for it at each listener, beyond the room that
     /// there is.
     fn prepare_late(&mut self, job: u64) -> Result<Late, AllocError>
         ensures goes { Goes self.old self.new (λ past. past) }
@@ -62,7 +62,7 @@ impl Tables {
         Ok(Late { job, text })
     }
 
-    /// The jobs whose deadlines are reached, in the order of their numbers, with room for all that is queued of them.
+    /// The jobs whose deadlines are reached, in the order of their numbers, with room for all packets that report them.
     fn prepare_due(&mut self, now: u64) -> Result<VecDeque<Late>, AllocError>
         ensures goes { Goes self.old self.new (λ past. past) }
         ensures config { self.new.config ≡ self.old.config }

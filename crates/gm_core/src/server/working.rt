@@ -1,4 +1,4 @@
-//! What workers say of their jobs.
+//! The workers' reports on their jobs.
 
 ghost use Rattle.std.specs.Prelude.{◌≡◌, ◌⊎◌, ℕ, Bool, true, Some, None, IfSome};
 ghost use Rattle.std.specs.Option.{option_map};
@@ -50,8 +50,8 @@ fn running_at<'a>(
 impl Tables {
     ghost use Rattle.gm_core.specs.Holds.{IsKept, Goes, Does};
 
-    /// The worker in a slot sends a WORK packet. If its job runs there, those that listen are told, how far the job is
-    /// is kept, and perhaps the job ends.
+    /// The worker in a slot sends a WORK packet. If its job runs there, its listeners get the report, how far the job
+    /// is is kept, and perhaps the job ends.
     pub(super) fn work(
         &mut self,
         slot: u32,

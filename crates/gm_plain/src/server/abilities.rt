@@ -1,4 +1,4 @@
-//! What workers can do, and when they sleep.
+//! The workers' abilities, and their sleep.
 
 ghost use Rattle.std.specs.Prelude.{◌≡◌, ◌<◌, false};
 ghost use Rattle.gm_notes.specs.Submissions.{is_bad_name};
@@ -74,7 +74,7 @@ impl PlainServer {
         Ok(())
     }
 
-    /// The worker in a slot wants to sleep; beside work it is woken at once.
+    /// The worker in a slot wants to sleep; if a job waits that it can do, it is woken at once.
     pub(super) fn pre_sleep(&mut self, slot: u32) -> Result<(), AllocError>
         requires { slot < self.old.config.slots }
         ensures { Does self.old result self.new (pre_sleep self.old.config slot) }

@@ -1,4 +1,4 @@
-//! What is known of jobs.
+//! The answer to GET_STATUS: a job's status, by its handle.
 
 ghost use Rattle.std.specs.Prelude.{◌≡◌, ◌<◌, ◌≤◌, false, length};
 ghost use Rattle.gm_packet.specs.Packets.{has_nul};
@@ -13,7 +13,7 @@ use gm_actions::{known_status, unknown_status};
 use std::alloc::AllocError;
 
 impl PlainServer {
-    /// Tells a slot what is known of the job that a handle names.
+    /// Tells a slot the status of the job that a handle names.
     pub(super) fn tell_status(&mut self, slot: u32, handle: &[u8]) -> Result<(), AllocError>
         requires slot { slot < self.old.config.slots }
         requires plain { has_nul handle.now ≡ false }

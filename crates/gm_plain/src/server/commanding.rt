@@ -1,4 +1,4 @@
-//! What administrators command in text lines.
+//! The administrators' commands in text lines.
 
 ghost use Rattle.std.specs.Prelude.{◌≡◌, ◌<◌, ◌≤◌, true, false, List, Ok};
 ghost use Rattle.gm_admin.specs.Answers.{status_text, workers_text, ok_text, version_text};

@@ -17,8 +17,8 @@ use gm_packet::Response;
 use std::alloc::AllocError;
 
 impl PlainServer {
-    /// The moment is this one, or stays where this one is past; running jobs whose deadline is reached
-    /// have failed. Out of memory, it takes back all that came since.
+    /// The moment is this one, or stays if this one is past; running jobs whose deadline is reached have failed. Out of
+    /// memory, it takes back all that came since.
     pub(super) fn tick(&mut self, now: u64) -> Result<Done, ApplyError>
         ensures { (k : Settings) (steps : List Step) → PlainAgrees self.old k steps
             → Answers k steps (Tick now) result × PlainAgrees self.new k (steps_after result (Tick now) steps) }

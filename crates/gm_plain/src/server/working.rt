@@ -1,4 +1,4 @@
-//! What workers say of their jobs.
+//! The workers' reports on their jobs.
 
 ghost use Rattle.std.specs.Prelude.{◌≡◌, ◌<◌, ◌≤◌, not, true, filter, IfOk};
 ghost use Rattle.std.specs.List.{All};
@@ -98,8 +98,8 @@ impl PlainServer {
         Ok(())
     }
 
-    /// The listeners of a job are told what its worker says; where only some of them get that, and the job ends, the
-    /// others are told that it failed. Out of memory, it changes nothing.
+    /// The listeners of a job get its worker's report; if only some of them get it, and the job ends, the others get
+    /// WORK_FAIL. Out of memory, it changes nothing.
     fn tell_listeners(&mut self, job: u64, packet: &WorkPacket<'_>) -> Result<(), AllocError>
         requires fits { WorkFits packet.now }
         ensures does { Does self.old result self.new (tell_listeners self.old.config (work_of self.old.config packet.now) job) }

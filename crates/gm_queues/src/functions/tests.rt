@@ -1,4 +1,4 @@
-//! What the private rings show.
+//! Tests that look at the private rings.
 
 use super::Functions;
 use gm_notes::Priority;
