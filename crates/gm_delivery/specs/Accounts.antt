@@ -1,4 +1,4 @@
--- What a slot's connections were sent: what its pen was given, and what was written.
+-- The account of a slot's connections: the bytes and NOOPs that its pen got, and those that were written.
 use Rattle.std.specs.Prelude.{◌≡◌, ℕ, ℤ, ◌+◌, ◌*◌, ◌==◌, ◌&&◌, Bool, true, if◌then◌else◌, List, [], ◌∷◌, ◌++◌, length, map}
 use Rattle.gm_shared.specs.declared.tape.Answer.{Answer}
 use Rattle.gm_shared.specs.declared.tape.Answer.TheVariants as answers
@@ -15,7 +15,7 @@ abbrev pub bytes_in : Answer → List ℕ
 bytes_in (answers.Done done) = []
 bytes_in (answers.Drained bytes) = bytes
 
--- what each drain gave by the pen of slot c when the slot had been opened n times, the newest first
+-- the bytes of each drain by the pen of slot c when the slot had been opened n times, the newest first
 abbrev pub drains_at : ℕ → ℕ → List Entry → List (List ℕ)
 drains_at n c [] = []
 drains_at n c (e ∷ older) = if (2 * c + 1 == actor_code e.actor) && (openings c older == n) then bytes_in e.answer ∷ drains_at n c older else drains_at n c older
@@ -27,7 +27,7 @@ pub record DrainedMessage : Type 0 where
   pub took : Bool
   pub gave : List ℕ
 
--- what messages send, each NOOP behind the bytes that were drained with it; the newest is the first
+-- the bytes that messages send, each NOOP after the bytes that were drained with it; the newest is the first
 abbrev pub sent_by : List DrainedMessage → List ℕ
 sent_by [] = []
 sent_by (m ∷ older) = sent_by older ++ message_of m.took m.gave
@@ -61,7 +61,7 @@ IsPrefixWritten n c since takes until takes_after written = (rest : List ℕ) ×
 -- ---- connections that are gone
 
 -- To the connection of the n-th opening a prefix of what the messages send was written; all of it and each NOOP that
--- was taken, where that is said.
+-- was taken, if that is said.
 pub record WrittenTo (n c : ℕ) (p : Past) : Type 0 where
   pub rest : List ℕ
   pub lost : ℕ

@@ -1,4 +1,4 @@
--- What a delivery leaves to do, and what was done at a lane.
+-- The work that a delivery leaves, and the work done at a lane.
 use Rattle.std.specs.Prelude.{◌≡◌, ◌⊎◌, ◌<◌, ℕ, Option, Some, None}
 use Rattle.atomic_table.specs.Seated.{TableId}
 use Rattle.gm_lane_word.specs.Seats.{Count}
@@ -19,7 +19,7 @@ abbrev pub HandsOver : Option Count → Type 0
 HandsOver None = ⊥
 HandsOver (Some count) = 0 < count.hand_overs
 
--- this thread touched this lane once, and made an attempt where it found that the lane was idle
+-- this thread touched this lane once, and made an attempt if it found that the lane was idle
 pub record Tries (lane : TableId) (count : Count) : Type 0 where
   pub lane_is : count.lane ≡ lane
   pub once : count.touches ≡ 1
@@ -29,7 +29,7 @@ abbrev pub Tried : TableId → Option Count → Type 0
 Tried lane None = ⊥
 Tried lane (Some count) = Tries lane count
 
--- it took this lane over, and made an attempt where it found that the lane was idle or left
+-- it took this lane over, and made an attempt if it found that the lane was idle or left
 pub record TriesOver (lane : TableId) (count : Count) : Type 0 where
   pub lane_is : count.lane ≡ lane
   pub once : count.touches ≡ 1
@@ -40,7 +40,7 @@ abbrev pub TriedOver : TableId → Option Count → Type 0
 TriedOver lane None = ⊥
 TriedOver lane (Some count) = TriesOver lane count
 
--- it touched this lane once, and left it to its finisher where it found that the lane was idle
+-- it touched this lane once, and left it to its finisher if it found that the lane was idle
 pub record Leaves (lane : TableId) (count : Count) : Type 0 where
   pub lane_is : count.lane ≡ lane
   pub once : count.touches ≡ 1
@@ -50,7 +50,7 @@ abbrev pub Left : TableId → Option Count → Type 0
 Left lane None = ⊥
 Left lane (Some count) = Leaves lane count
 
--- it took this lane over where it was left, and made an attempt then; where it made none, the lane wasn't left
+-- it took this lane over if it was left, and made an attempt then; if it made none, the lane wasn't left
 pub record TriesLeft (lane : TableId) (count : Count) : Type 0 where
   pub lane_is : count.lane ≡ lane
   pub attempt : count.found ≡ 3 → 0 < count.attempts

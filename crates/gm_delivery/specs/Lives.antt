@@ -1,4 +1,4 @@
--- What is to be done for a connection, and until when.
+-- The next step for a connection, and its time limits.
 use Rattle.std.specs.Prelude.{ℕ, ◌+◌, ◌-◌, ◌^◌, min, Bool, true, false}
 use Rattle.gm_delivery.specs.declared.life.OutboundState.{OutboundState}
 use Rattle.gm_delivery.specs.declared.life.OutboundState.TheVariants.{Open, Finished, Cut}
@@ -14,8 +14,8 @@ abbrev pub most_time : Bool → ℕ
 most_time false = 30_000
 most_time true = 2_000
 
--- what is to be done in this state, where the time is over or not, something is left to be sent or not, and the input
--- ended or not
+-- the next step in this state, by whether the time is over, whether something is left to be sent, and whether the input
+-- ended
 abbrev pub deed_of : OutboundState → Bool → Bool → Bool → Deed
 deed_of Open false true ended = Send
 deed_of state over left true = LetGo
@@ -23,12 +23,12 @@ deed_of Open over false false = Serve
 deed_of Finished false left false = Linger
 deed_of state over left false = HangUp
 
--- where a connection can be sent to, or not
+-- the state of a connection that can be sent to, or can't
 abbrev pub state_if : Bool → OutboundState
 state_if true = Open
 state_if false = Cut
 
--- what is finished stays so
+-- a finished sending stays finished
 abbrev pub cut_state : OutboundState → OutboundState
 cut_state Open = Cut
 cut_state Finished = Finished

@@ -1,4 +1,4 @@
--- A message: the bytes of one drain, and then a NOOP where one was taken.
+-- A message: the bytes of one drain, and then a NOOP if one was taken.
 use Rattle.std.specs.Prelude.{◌≡◌, ◌⊎◌, ◌≤◌, ◌==◌, if◌then◌else◌, ℕ, zero, suc, List, [], ◌∷◌, ◌++◌, length, take, drop, Bool, true, false, Option, None, Some}
 use Rattle.std.specs.Io.KnownBytes.{Appends}
 use Rattle.std.specs.declared.io.ErrorKind.{ErrorKind}
@@ -10,20 +10,20 @@ use Rattle.gm_delivery.specs.declared.message.Message.{Message}
 use Rattle.gm_delivery.specs.declared.writing.Sent.{Sent}
 use Rattle.gm_delivery.specs.declared.writing.Sent.TheVariants as sent
 
--- the NOOP, where one was taken
+-- the NOOP, if one was taken
 abbrev pub noop_if : Bool → List ℕ
 noop_if true = answer_packet noop
 noop_if false = []
 
--- what a message sends: the bytes that were drained, and then a NOOP where one was taken
+-- the bytes of a message: those that were drained, and then a NOOP if one was taken
 abbrev pub message_of : Bool → List ℕ → List ℕ
 message_of took drained = drained ++ noop_if took
 
--- what isn't sent yet of a message's NOOP, where one was taken
+-- the part of a message's NOOP that isn't sent yet, if one was taken
 abbrev pub noop_left : Message → List ℕ
 noop_left message = drop message.noop_sent (noop_if message.took)
 
--- what isn't sent yet of a message
+-- the part of a message that isn't sent yet
 abbrev pub unsent : Message → List ℕ
 unsent message = message.bytes.bytes ++ noop_left message
 
@@ -31,15 +31,15 @@ abbrev pub left_in : Option Message → List ℕ
 left_in None = []
 left_in (Some message) = unsent message
 
--- what comes of a write that failed so: one that only came too early can be tried again
+-- the outcome of a write that failed so: one that only came too early can be tried again
 abbrev pub sent_on : ErrorKind → Sent
 sent_on WouldBlock = sent.Some
 sent_on TimedOut = sent.Some
 sent_on Interrupted = sent.Some
 sent_on kind = sent.Failed
 
--- A write took this many of the bytes, which are in order the next that the writer was given: all of them exactly where
--- that is said, and none where there is no peer to write to.
+-- A write took this many of the bytes, which are in order the next that the writer was given: all of them exactly if
+-- that is said, and none if there is no peer to write to.
 pub record Writes (old new : Option (List ℕ)) (bytes : List ℕ) (count : ℕ) (outcome : Sent) : Type 0 where
   pub within : count ≤ length bytes
   pub written : Appends old new (take count bytes)
@@ -47,7 +47,7 @@ pub record Writes (old new : Option (List ℕ)) (bytes : List ℕ) (count : ℕ)
   pub unless_all : count ≡ length bytes → outcome ≡ sent.All
   pub failed : outcome ≡ sent.Failed → count ≡ 0
 
--- A prefix of what was due was sent, and this is left; nothing exactly where all was.
+-- A prefix of what was due was sent, and this is left; nothing exactly if all was.
 pub record SendsPrefix (outcome : Sent) (old new : Option (List ℕ)) (due left : List ℕ) : Type 0 where
   pub part : List ℕ
   pub written : Appends old new part
@@ -55,9 +55,9 @@ pub record SendsPrefix (outcome : Sent) (old new : Option (List ℕ)) (due left 
   pub all : outcome ≡ sent.All → left ≡ []
   pub unless_all : left ≡ [] → outcome ≡ sent.All
 
--- ---- why, where it is known what the writer's calls answered, the newest first
+-- ---- why, if it is known what the writer's calls answered, the newest first
 
--- what comes of a call that answered so: one that took none of its bytes, or failed, shows that there is no peer to
+-- the outcome of a call that answered so: one that took none of its bytes, or failed, shows that there is no peer to
 -- write to, unless it came too early
 abbrev pub sent_as : Answer → Sent
 sent_as (Moved zero size) = sent.Failed
@@ -74,8 +74,8 @@ abbrev pub LastSays : List Answer → Sent → Type 0
 LastSays [] outcome = ⊥
 LastSays (answer ∷ earlier) outcome = sent_as answer ≡ outcome
 
--- No bytes are written without a call, and no call is made once the time is over; otherwise one call was made, and what
--- it answered is what came of it.
+-- No bytes are written without a call, and no call is made once the time is over; otherwise one call was made, and its
+-- answer is the outcome.
 abbrev pub WritesOnce : List ℕ → Bool → Option (List Answer) → Option (List Answer) → Sent → Type 0
 WritesOnce [] over old new outcome = Calls old new [] × (outcome ≡ sent.All)
 WritesOnce (b ∷ bytes) over old new outcome = ((over ≡ true) × Calls old new [] × (outcome ≡ sent.Some)) ⊎ ((answer : Answer) × Calls old new (answer ∷ []) × (sent_as answer ≡ outcome))

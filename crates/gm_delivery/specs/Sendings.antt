@@ -1,4 +1,4 @@
--- What is sent to a slot's connection, and what is known of all that was.
+-- The sending to a slot's connection, and the account of it.
 use Rattle.std.specs.Prelude.{◌≡◌, ◌<◌, ◌+◌, ◌-◌, ◌==◌, ◌&&◌, ◌||◌, ℕ, ℤ, nat_lt, Bool, true, false, if◌then◌else◌, not, MatchBool, List, [], ◌∷◌, ◌++◌, length, Option, Some, None, is_some, Result, Ok, Err}
 use Rattle.gm_feeder.specs.declared.source.Answer.{Answer}
 use Rattle.gm_feeder.specs.declared.source.Answer.TheVariants.{Moved, Failed}
@@ -48,8 +48,8 @@ pub record SenderState : Type 0 where
 abbrev pub present : SenderState → ℕ
 present s = length s.sendings.past + 1
 
--- What was written to the connection, and then what is left, is what the pen is given at its opening, which a count of
--- 64 bits can tell; where the sending is finished, it is all of that, and where it broke off, a prefix.
+-- The bytes written to the connection, and then the rest, are those that the pen is given at its opening, which a count
+-- of 64 bits can tell; if the sending is finished, it is all of that, and if it broke off, a prefix.
 abbrev pub IsOutboundSo : SenderState → List ℕ → OutboundState → Type 0
 IsOutboundSo s log Open = IsWritten (present s) s.slot s.sendings.since s.sendings.takes s.seen s.takes 0 log s.left × (s.openings ≡ present s) × (s.openings < most_openings)
 IsOutboundSo s log Finished = IsWritten (present s) s.slot s.sendings.since s.sendings.takes s.seen s.takes 0 log [] × (s.left ≡ [])
@@ -132,7 +132,7 @@ pub record SendsPart (outbound : Outbound) (left : List ℕ) (now : Outbound) (l
   pub now_is : now ≡ record { state = if breaks_off then Cut else Open; socket = outbound.socket; log = outbound.log ++ part; answers = calls ++ outbound.answers; over = now.over }
   pub left_is : left_now ≡ (if breaks_off then [] else rest)
 
--- What is left for a connection is sent, if it can be sent to.
+-- The rest for a connection is sent, if it can be sent to.
 abbrev pub Sends : OutboundState → Outbound → List ℕ → Outbound → List ℕ → Type 0
 Sends Open outbound left now left_now = SendsPart outbound left now left_now
 Sends state outbound left now left_now = (now ≡ outbound) × (left_now ≡ left)
@@ -146,8 +146,8 @@ SendsLeft old new = SendsTo old.outbound old new
 
 -- ---- what the pen gives
 
--- What it gave for the connection is left to be sent; from where on it gives what waits for another opening, no
--- connection can be told from another.
+-- The bytes that it gave for the connection are left to be sent. Once it gives bytes for another opening, no connection
+-- can be told from another.
 abbrev pub refilled : Bool → Result Drained ApplyError → SenderState → SenderState
 refilled took (Ok drained) s = if drained.opening == s.openings then record s { left = message_of took drained.bytes.bytes } else record s { openings = most_openings; outbound = cut s.outbound }
 refilled took (Err error) s = record s { outbound = cut s.outbound }
@@ -176,7 +176,7 @@ finished_outbound (Some outbound) = Some record outbound { state = Finished }
 abbrev pub finished : SenderState → SenderState
 finished s = record s { outbound = finished_outbound s.outbound }
 
--- What was given is sent. If all of it was, and the slot is shut or the connection is to end, no more is.
+-- The given bytes are sent. If all of them were, and the slot is shut or the connection is to end, nothing more is.
 abbrev pub SendsGiven : Option Bool → Bool → SenderState → SenderState → Type 0
 SendsGiven None ends given new = new ≡ given
 SendsGiven (Some is_shut) ends given new = (sent : SenderState) × SendsLeft given sent × (new ≡ (if is_clear sent && (is_shut || ends) then finished sent else sent))
@@ -185,13 +185,13 @@ abbrev pub GoesOn : Bool → Settings → Bool → Bool → SenderState → Send
 GoesOn false k taped ends sent new = new ≡ sent
 GoesOn true k taped ends sent new = (is_shut : Option Bool) × (given : SenderState) × Refills k taped is_shut sent given × SendsGiven is_shut ends given new
 
--- What was left is sent. If all of it was, the pen is asked for more.
+-- The rest is sent. If all of it was, the pen is asked for more.
 pub record Transmits (k : Settings) (taped ends : Bool) (old new : SenderState) : Type 0 where
   pub sent : SenderState
   pub sends : SendsLeft old sent
   pub goes_on : GoesOn (is_clear sent) k taped ends sent new
 
--- Only where the sending is finished the time is looked at.
+-- The time is looked at only if the sending is finished.
 abbrev pub Looked : Outbound → Bool → Type 0
 Looked outbound over = (outbound.state ≡ Finished → ⊥) → over ≡ outbound.over
 
@@ -199,7 +199,7 @@ abbrev pub LookedAt : Option Outbound → Option Outbound → Type 0
 LookedAt None now = now ≡ None
 LookedAt (Some outbound) now = (over : Bool) × Looked outbound over × (now ≡ Some record outbound { over = over })
 
--- what is to be done next, where something is left for it or not, and its input ended or not; nothing where there is no
+-- the next step, by whether something is left for it, and whether its input ended; nothing if there is no
 -- connection
 abbrev pub deed_for : Option Outbound → Bool → Bool → Deed
 deed_for None clear ended = Serve
@@ -212,12 +212,12 @@ deed_after s ended = deed_for s.outbound (is_clear s) ended
 abbrev pub cut_off : SenderState → SenderState
 cut_off s = record s { left = []; outbound = cut s.outbound }
 
--- what is to be done next is left to others, but for hanging up
+-- the next step is left to others, except hanging up
 abbrev pub next_by : Deed → SenderState → SenderState
 next_by HangUp s = cut_off s
 next_by deed s = s
 
--- the time is looked at, and what is to be done next is said; hanging up is done
+-- the time is looked at, and the next step is said; hanging up is done
 pub record Decides (has_ended : Bool) (deed : Deed) (old new : SenderState) : Type 0 where
   pub looked : SenderState
   pub looks : LookedAt old.outbound looked.outbound
@@ -233,12 +233,12 @@ may_rest Send = false
 may_rest Linger = false
 may_rest LetGo = false
 
--- a delivery is over where nothing is left to do; otherwise it is said what is
+-- a delivery is over if nothing is left to do; otherwise the next step is said
 abbrev pub IsDeliveredFor : Result Delivered Deed → Deed → Type 0
 IsDeliveredFor (Ok delivered) deed = may_rest deed ≡ true
 IsDeliveredFor (Err left) deed = (left ≡ deed) × (may_rest deed ≡ false)
 
--- What was left, and then what waits, is sent, and then it is decided what is to be done next.
+-- The rest is sent, and then the waiting bytes, and then the next step is decided.
 pub record Delivers (k : Settings) (taped ends has_ended : Bool) (result : Result Delivered Deed) (old new : SenderState) : Type 0 where
   pub sent : SenderState
   pub transmits : Transmits k taped ends old sent
@@ -252,7 +252,7 @@ abbrev pub sendings_without : SenderState → Option Outbound → Bool → Sendi
 sendings_without s None is_whole = s.sendings
 sendings_without s (Some outbound) is_whole = closed s.seen s.takes outbound.socket outbound.log is_whole s.sendings
 
--- whether all that was due was written: what is finished is whole, and what goes on is where nothing is left
+-- whether all that was due was written: what is finished is whole, and what goes on is whole if nothing is left
 abbrev pub whole_in : OutboundState → List ℕ → Bool
 whole_in Open left = length left == 0
 whole_in Finished left = true

@@ -1,11 +1,11 @@
-//! What was written to a slot's connections, which only proofs know.
+//! The account of the bytes written to a slot's connections. Only proofs know it.
 
 use gm_ghost::Worth;
 use gm_shared::Entry;
 use std::collections::LinkedList;
 use std::marker::Brand;
 
-/// A connection that is gone: what its slot's pen had seen of the history when it came and when it went, how many NOOPs
+/// A connection that is gone: the history that its slot's pen had seen when it came and when it went, how many NOOPs
 /// the pen had taken then, its socket's number, all that was written to it, and whether that is all that the pen gave.
 /// No value is made.
 #[derive(Drop)]

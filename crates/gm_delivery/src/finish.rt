@@ -1,4 +1,4 @@
-//! What a delivery leaves to do.
+//! The work that a delivery leaves to do.
 
 ghost use Rattle.std.specs.Prelude.{◌≡◌, Some, IsSome};
 ghost use Rattle.std.specs.Fn.{FnOnceReturns};
@@ -18,7 +18,7 @@ pub enum Deliverer {
     Other,
 }
 
-/// What a delivery left to do.
+/// The work that a delivery left to do.
 #[derive(Clone, Copy, PartialEq, Eq)]
 pub enum Finish {
     /// The finisher is to come again: once the socket takes bytes, and in a while, as the connection's time may be over
@@ -30,7 +30,7 @@ pub enum Finish {
     Gone,
 }
 
-/// What a thread leaves to do of a slot's lane, and what it did there, if it did something. It can't be dropped:
+/// The work that a thread leaves to do at a slot's lane, and its own work there, if any. It can't be dropped:
 /// `settle` has the lane's finisher woken, if it is to come and doesn't know that. A lane that was handed over asks for
 /// its finisher.
 pub struct Leftover {
@@ -42,7 +42,7 @@ pub struct Leftover {
 }
 
 impl Leftover {
-    /// What this thread leaves of the slot's lane, after it did this there.
+    /// The work that this thread leaves at the slot's lane, after this work of its own.
     pub(crate) fn new(
         slot: u32,
         finish: Option<Finish>,

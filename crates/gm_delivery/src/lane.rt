@@ -1,4 +1,4 @@
-//! The way of a slot's bytes to its connection's socket, which threads share.
+//! A slot's lane: one thread at a time delivers the slot's bytes to its connection's socket.
 
 ghost use Rattle.std.specs.Prelude.{◌≡◌, ◌<◌, [], length, Some, true, false, IfSome, IsSome, IfOk, MatchBool, MatchOption};
 ghost use Rattle.std.specs.Net.Tcp.{stream_raw_fd};
@@ -20,17 +20,18 @@ use std::alloc::{AllocError, Global};
 use std::sync::{Mutex, Wait};
 use std::time::Clock;
 
-/// How many attempts a thread makes in a row, where the lane is touched again and again.
+/// How many attempts a thread makes in a row, if the lane is touched again and again.
 const MOST_ATTEMPTS: u32 = 16;
 
-/// What its reader asks of a connection: no more of its requests are taken, what waits is sent, and then no more is.
+/// Asked by the reader of a connection: no more of its requests are taken, the waiting bytes are sent, and then no
+/// more.
 const MUST_END: u8 = 1;
 
 /// The same, and it is let go of then, as nothing is read from it any more.
 const INPUT_ENDED: u8 = 2;
 
-/// What is around a delivery: the book in which waits what is to be sent, how far the server is, and whom it tells of
-/// peers that vanished.
+/// The surroundings of a delivery: the book in which the bytes and NOOPs wait, the stage of the server, and the
+/// speaker, which reports peers that vanished.
 #[derive(Clone, Copy)]
 pub struct DeliveryContext<'s, K: BookName, R> {
     pub rt: &'s R,
@@ -47,7 +48,7 @@ impl<'s, K: BookName, R> DeliveryContext<'s, K, R> {
     }
 }
 
-/// The thread that writes: it is at a connection of which this is asked, and waits for a slow peer or not.
+/// How a thread writes: what is asked of its connection, and whether it waits for a slow peer.
 #[derive(Drop)]
 pub(crate) struct Writing<'a, K: BookName, R> {
     pub(crate) context: &'a DeliveryContext<'a, K, R>,
@@ -63,15 +64,15 @@ impl<'a, K: BookName, R> Writing<'a, K, R> {
     }
 }
 
-/// What a slot has for what its connections are sent. What is to be sent is with the thread that has the lane, so its
-/// lock is waited for only where a connection comes.
+/// A slot's part for sending. The bytes to send are with the thread that has the lane, so its lock is waited for only
+/// when a connection comes.
 #[derive(Drop)]
 pub struct Lane<K: BookName> {
     slot: u32,
     // It is given up only for a delivery.
     word: LaneWord<Delivered>,
     sender: Mutex<Sender<K>>,
-    /// What is asked of the connection.
+    /// Whether the connection is asked to end, as a stage.
     asked: Stage,
 }
 
@@ -138,8 +139,8 @@ impl<K: BookName> Lane<K> {
         }
     }
 
-    /// Takes a connection, and lets go of it at once, as nobody serves it. It says whether its socket could be handed
-    /// to both sides of its slot.
+    /// Takes a connection, and lets go of it at once, because no thread serves it. It says whether its socket could be
+    /// handed to both sides of its slot.
     pub fn refuse(
         &self,
         rt: &impl Wait,
@@ -184,9 +185,9 @@ impl<K: BookName> Lane<K> {
         }
     }
 
-    /// Asks for the connection's end, as its input ended or not, and goes on with that. The thread that reads from the
-    /// connection calls it; it has no effect if that was asked already. What can't be done at once is left to the
-    /// finisher.
+    /// Asks for the connection's end, because its input ended or for another reason, and goes on with that. The thread
+    /// that reads from the connection calls it; it has no effect if that was asked already. The work that can't be done
+    /// at once is left to the finisher.
     pub fn end<R: Wait + Clock>(
         &self,
         context: &DeliveryContext<'_, K, R>,
@@ -224,7 +225,7 @@ impl<K: BookName> Lane<K> {
         }
     }
 
-    /// The same as the finisher, which doesn't wait, where others left something to it.
+    /// Delivers as the finisher, without waiting, if others left something to it.
     pub fn deliver_left<R: Wait + Clock>(&self, context: &DeliveryContext<'_, K, R>) -> Leftover
         ensures slot { result.slot ≡ self.now.slot }
         ensures tried { TriedLeft self.now.word result.tally }
@@ -237,7 +238,7 @@ impl<K: BookName> Lane<K> {
         }
     }
 
-    /// What this thread leaves of the lane, after it did this there.
+    /// The work that this thread leaves at the lane, after this work of its own.
     fn left(&self, finish: Option<Finish>, deliverer: Deliverer, tally: Tally) -> Leftover
         requires { 0 < tally.hand_overs → IsSome finish }
         ensures slot { result.slot ≡ self.now.slot }
@@ -246,7 +247,7 @@ impl<K: BookName> Lane<K> {
         Leftover::new(self.slot, finish, deliverer, Some(tally))
     }
 
-    /// Makes an attempt, and another where the lane was touched since.
+    /// Makes an attempt, and another if the lane was touched since.
     fn deliver_claimed<'a, R: Wait + Clock>(
         &'a self,
         context: &DeliveryContext<'_, K, R>,

@@ -1,7 +1,7 @@
-//! What one connection is sent: what waits for its slot in the book is written to its socket, by one thread at a time.
-//! A `Message` is drained bytes and the NOOP behind them. A `Lane` is what a slot has for what its connections are
-//! sent: a sender, with the slot's pen, what is left of a message, the connection's socket, and an account of all that
-//! was ever written to the slot's connections; and the word that says which thread delivers.
+//! Delivery to one connection: the bytes that wait for its slot in the book are written to its socket, by one thread at
+//! a time. A `Message` is drained bytes and the NOOP after them. A `Lane` is a slot's part for sending: a sender, with
+//! the slot's pen, the rest of a message, the connection's socket, and an account of all bytes ever written to the
+//! slot's connections; and the word that says which thread delivers.
 #![tactic(auto)]
 
 mod account;

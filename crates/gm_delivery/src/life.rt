@@ -1,4 +1,4 @@
-//! How a connection ends: until when it is sent to, and what is to be done for it next.
+//! How a connection ends: until when it is sent to, and the next step for it.
 
 ghost use Rattle.std.specs.Prelude.{◌≡◌, ◌≤◌, ◌↔◌, ◌*◌, ◌-◌, ◌^◌, min, IsTrue, if◌then◌else◌, false};
 ghost use Rattle.gm_delivery.specs.Lives.{deed_of, later, most_time, state_if};
@@ -16,15 +16,15 @@ pub enum OutboundState {
     Cut,
 }
 
-/// What is to be done for a connection, once what could be sent to it was.
+/// The next step for a connection, once all that could be sent to it was sent.
 #[derive(Clone, Copy, PartialEq, Eq)]
 pub enum Deed {
     /// Nothing, until there is something to send, or it is to end.
     Serve,
-    /// What is left is sent, once its peer takes more.
+    /// The rest is sent, once the peer takes more.
     Send,
-    /// Its peer was told that no more is sent. What it still sends is read and dropped for a while: closing a socket
-    /// before that would have the system forget what the peer hasn't read yet.
+    /// The sending side was shut, which tells the peer. The bytes that it still sends are read and dropped for a while:
+    /// closing a socket before that would have the system forget what the peer hasn't read yet.
     Linger,
     /// It is sent nothing more, and its reader is to find its end.
     HangUp,
@@ -70,8 +70,8 @@ impl Life {
         self.is_over
     }
 
-    /// Looks at the time, where it is to end: while its peer takes some it has more, but no more in all, and none where
-    /// the server stops.
+    /// Looks at the time, if the connection is to end: it gets more while its peer takes some, up to a limit for the
+    /// whole end, and none when the server stops.
     pub(crate) fn look(&mut self, now: u64, is_stopping: bool, has_taken: bool)
         ensures state { self.new.state ≡ self.old.state }
         ensures until { self.new.until ≡ min (later now 2_000) (if has_taken then later now 2_000 else self.old.until) }
@@ -94,7 +94,7 @@ impl Life {
         self.is_over = self.until.min(self.last) <= now;
     }
 
-    /// What is to be done next, where something is left to be sent or not, and its input ended or not.
+    /// The next step, by whether something is left to be sent, and whether its input ended.
     pub(crate) fn next(&self, has_left: bool, has_ended: bool) -> Deed
         ensures { result ≡ deed_of self.now.state self.now.is_over has_left has_ended }
     {

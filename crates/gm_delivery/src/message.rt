@@ -1,4 +1,4 @@
-//! A message, which is sent in several writes where its peer is slow.
+//! A message, which is sent in several writes if its peer is slow.
 
 ghost use Rattle.std.specs.Prelude.{◌≡◌, ◌<◌, ◌≤◌, ◌==◌, ℕ, List, [], ◌++◌, length};
 
@@ -9,16 +9,16 @@ use gm_socket::Wire;
 /// The most bytes that are handed to the socket in one write: so long a write may wait while its peer reads slowly.
 const MOST_WRITTEN: usize = 262_144;
 
-/// The most writes of a message in a row, before that of its NOOP, so that whoever sends sees in between whether the
-/// connection is to end.
+/// The most writes of a message in a row, before that of its NOOP, so that the sending thread sees in between whether
+/// the connection is to end.
 const MOST_WRITES: u32 = 8;
 
-/// What is being sent: drained bytes, and then a NOOP where one was taken.
+/// The bytes being sent: those that were drained, and then a NOOP if one was taken.
 #[derive(Drop)]
 pub struct Message {
     /// The bytes that aren't sent yet.
     bytes: ByteQueue,
-    /// Whether a NOOP was taken, which is sent behind them.
+    /// Whether a NOOP was taken, which is sent after them.
     took: bool,
     /// How many bytes of the NOOP are sent.
     noop_sent: usize,
@@ -28,7 +28,7 @@ pub struct Message {
 impl Message {
     ghost use Rattle.gm_delivery.specs.Messages.{message_of, noop_left, unsent, SendsPrefix, WritesOnce, IsReason};
 
-    /// These bytes, and a NOOP where one was taken.
+    /// These bytes, and a NOOP if one was taken.
     pub fn new(bytes: ByteQueue, took: bool) -> Message
         ensures { unsent result ≡ message_of took bytes.bytes }
     {
@@ -46,7 +46,7 @@ impl Message {
         self.bytes.is_empty() && self.noop().is_empty()
     }
 
-    /// What isn't sent yet of the NOOP.
+    /// The part of the NOOP that isn't sent yet.
     fn noop(&self) -> &[u8]
         ensures { result.now ≡ noop_left self.now }
     {
@@ -63,8 +63,7 @@ impl Message {
         &first[..first.len().min(MOST_WRITTEN)]
     }
 
-    /// Sends what isn't sent yet, the bytes in as many writes as it takes, and then the NOOP. After `MOST_WRITES` the
-    /// rest waits.
+    /// Sends the rest, the bytes in as many writes as it takes, and then the NOOP. After `MOST_WRITES` the rest waits.
     pub fn send<E, W: Wire<E>>(&mut self, w: &mut W, by: &E) -> Sent
         ensures sends { SendsPrefix result (W.contents w.old) (W.contents w.new) (unsent self.old) (unsent self.new) }
         ensures reason { IsReason result (W.is_over w.new) (W.answers w.old) (W.answers w.new) }
@@ -91,7 +90,7 @@ impl Message {
         }
     }
 
-    /// Sends what isn't sent yet of the NOOP, where all of the bytes are.
+    /// Sends the rest of the NOOP, if all of the bytes are.
     fn send_noop<E, W: Wire<E>>(&mut self, w: &mut W, by: &E) -> Sent
         requires { self.old.bytes.bytes ≡ [] }
         ensures sends { SendsPrefix result (W.contents w.old) (W.contents w.new) (unsent self.old) (unsent self.new) }

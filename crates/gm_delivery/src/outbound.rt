@@ -42,7 +42,8 @@ impl Model for Outbound {
 }
 
 impl Outbound {
-    /// A connection that goes through this socket, to which nothing was written yet. If it can't be sent to, it is cut.
+    /// A connection that goes through this socket, and to which nothing was written yet. If it can't be sent to, it is
+    /// cut.
     pub(crate) fn new(socket: LoggedWriter<Socket>, begins: bool) -> Outbound
         requires { socket.answers ≡ [] }
         ensures { result ≡ record { state = state_if begins; socket = stream_raw_fd socket.writer.stream.value; log = socket.bytes; answers = []; over = false } }
@@ -75,7 +76,7 @@ impl Outbound {
         self.life.state = OutboundState::Cut;
     }
 
-    /// All was sent, and no more is, of which its peer is told.
+    /// All was sent and nothing more is: shuts the sending side of the socket, which tells the peer.
     pub(crate) fn finish(&mut self)
         ensures { self.new ≡ record self.old { state = OutboundState.Finished } }
     {
@@ -84,7 +85,7 @@ impl Outbound {
         self.socket.writer().shut(Shutdown::Write);
     }
 
-    /// Sends what is left of a message, as much of it as the peer takes. If it can't be sent any more, the connection
+    /// Sends the rest of a message, as much of it as the peer takes. If it can't be sent any more, the connection
     /// is cut, and nothing is left. It says whether the connection can be sent to, and nothing is left.
     pub(crate) fn send<E>(&mut self, left: &mut Option<Message>, by: &E) -> bool
     where
@@ -119,9 +120,9 @@ impl Outbound {
         }
     }
 
-    /// What is to be done next, where something is left to be sent or not, and the input ended or not. Hanging up is
-    /// done here: then it neither sends nor reads any more, and unless all was sent, the sending broke off. Only once
-    /// the sending is finished it looks at the time.
+    /// The next step, by whether something is left to be sent, and whether the input ended. Hanging up is done here:
+    /// then it neither sends nor reads any more, and unless all was sent, the sending broke off. Only once the sending
+    /// is finished it looks at the time.
     pub(crate) fn next<K: BookName, R: Clock>(
         &mut self,
         by: &Writing<'_, K, R>,

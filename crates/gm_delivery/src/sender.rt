@@ -1,4 +1,4 @@
-//! What is to be sent to a slot's connections, and where.
+//! The sender of a slot: what its connections still have to be sent, and their sockets.
 
 ghost use Rattle.std.specs.Prelude.{◌≡◌, ◌<◌, [], length, Option, Some, None, true, false, IfOk, MatchBool};
 ghost use Rattle.std.specs.Net.Tcp.{stream_raw_fd};
@@ -21,26 +21,27 @@ use std::marker::{Brand, Model};
 use std::sync::Wait;
 use std::time::Clock;
 
-/// That a delivery was made, and nothing is left to do. Only `Sender::deliver` makes it, and for it alone a lane's word
-/// is given up.
+/// That a delivery was made, and nothing is left to do. Only `Sender::deliver` makes it, and a lane's word is given up
+/// only for it.
 #[derive(Drop)]
 pub(crate) struct Delivered {
     _made: (),
 }
 
-/// What is to be sent to a slot's connections, and where. Contracts see what its pen has seen and taken, what is left
-/// to be sent, what was written to the connection, and the account of all connections that are gone.
+/// The sender of a slot: the bytes and NOOPs for its connections, and the present connection. Contracts see what its
+/// pen has seen and taken, the rest to send, the bytes written to the connection, and the account of those that are
+/// gone.
 #[derive(Drop)]
 pub(crate) struct Sender<K: BookName> {
     pen: Pen<K>,
     /// How many connections began, each for the next opening of its slot; the greatest `u64` once one couldn't be told
     /// from the next, or a drain was of another opening.
     openings: u64,
-    /// What is left of the present message.
+    /// The rest of the present message.
     left: Option<Message>,
     /// The connection, until it is let go of.
     outbound: Option<Outbound>,
-    /// What knows the sockets of the slot's connections.
+    /// The writing side of the slot, which knows the sockets of its connections.
     side: PairSide<K>,
     ledger: Ghost<Sendings>,
 }
@@ -76,8 +77,8 @@ impl<K: BookName> Model for Sender<K> {
     }) };
 }
 
-/// What a slot's lane hands out at the end: the pen, the account of all connections, and what knows their sockets. It
-/// also says how many they are, one for each opening; the greatest `u64` if it can't.
+/// The parts that a slot's lane hands out at the end: the pen, the account of all connections, and the side that knows
+/// their sockets. `openings` is how many they are, one for each opening; the greatest `u64` if it can't tell.
 #[derive(Drop)]
 pub struct LaneParts<K: BookName> {
     pub pen: Pen<K>,
@@ -124,9 +125,9 @@ impl<K: BookName> Sender<K> {
         })
     }
 
-    /// Takes a connection, which somebody serves or not, lets go of one that is there, and hands its socket to both
-    /// sides of the slot. It says whether it could: only if this is the other side of the slot. The connection can be
-    /// sent to, unless a count of 64 bits can't tell its opening from the one after it.
+    /// Takes a connection, which is served or isn't, lets go of one that is there, and hands its socket to both sides
+    /// of the slot. It says whether it could: only if this is the other side of the slot. The connection can be sent
+    /// to, unless a count of 64 bits can't tell its opening from the one after it.
     pub(crate) fn begin(
         &mut self,
         writing: LoggedWriter<Socket>,
@@ -152,8 +153,8 @@ impl<K: BookName> Sender<K> {
         true
     }
 
-    /// Sends what was left, and then what waits in the book, and decides what is to be done next. If nothing is left
-    /// to do, the lane may be given up.
+    /// Sends the rest, and then the bytes and the NOOP that wait in the book, and decides the next step. If nothing is
+    /// left to do, the lane may be given up.
     pub(crate) fn deliver<R: Wait + Clock>(
         &mut self,
         by: &Writing<'_, K, R>,
@@ -173,10 +174,11 @@ impl<K: BookName> Sender<K> {
         }
     }
 
-    /// Sends what was left, and then what waits in the book: the bytes, and a NOOP where one is owed. What waits for
-    /// another opening of the slot than the connection's is sent to nobody. If the book is asked for bytes, it is
-    /// asked for the NOOP first. If all was sent, and the slot is shut or the connection is to end, no more is sent,
-    /// of which its peer is told. It says whether the connection can be sent to, and nothing is left.
+    /// Sends the rest, and then all that waits in the book: the bytes, and a NOOP if one is owed. Bytes that wait for
+    /// another opening of the slot than the connection's aren't sent. If the book is asked for bytes, it is asked
+    /// for the NOOP first. If all was sent, and the slot is shut or the connection is to end, nothing more is sent, and
+    /// the sending side of the socket is shut, which tells the peer. It says whether the connection can be sent to, and
+    /// nothing is left.
     fn transmit<R: Wait + Clock>(&mut self, by: &Writing<'_, K, R>, ends: bool) -> bool
         ensures transmits { Transmits K.settings K.taped ends self.old self.new }
         ensures clear { result ≡ is_clear self.new }
@@ -196,7 +198,7 @@ impl<K: BookName> Sender<K> {
         is_clear
     }
 
-    /// Sends what is left of the present message. It says whether the connection can be sent to, and nothing is left.
+    /// Sends the rest of the present message. It says whether the connection can be sent to, and nothing is left.
     fn send_left<R: Wait + Clock>(&mut self, by: &Writing<'_, K, R>) -> bool
         ensures sends { SendsLeft self.old self.new }
         ensures clear { result ≡ is_clear self.new }
@@ -208,8 +210,9 @@ impl<K: BookName> Sender<K> {
         }
     }
 
-    /// Takes what the pen gives to the connection, which is left to be sent then, and says whether the slot is shut. If
-    /// it gives nothing, or what waits for another opening of the slot, the connection is cut, and none is the answer.
+    /// Takes the bytes and the NOOP that the pen gives, which are left to be sent then, and says whether the slot is
+    /// shut. If it gives nothing, or bytes for another opening of the slot, the connection is cut, and the answer is
+    /// none.
     fn refill<R: Wait + Clock>(&mut self, by: &Writing<'_, K, R>) -> Option<bool>
         requires { is_clear self.old ≡ true }
         ensures { Refills K.settings K.taped result self.old self.new }
@@ -250,7 +253,7 @@ impl<K: BookName> Sender<K> {
         }
     }
 
-    /// What is to be done for the connection after a delivery, whose input ended or not. Hanging up is done here: then
+    /// The next step for the connection after a delivery, by whether its input ended. Hanging up is done here: then
     /// it is sent nothing more, and nothing is read from it.
     fn next<R: Wait + Clock>(
         &mut self,
@@ -337,8 +340,8 @@ impl<K: BookName> Sender<K> {
         self.left = None;
     }
 
-    /// The pen, and the account of all connections: to each was written a prefix of what the pen was given at its
-    /// opening of the slot, and each went through the socket that the side knows of it.
+    /// The pen, and the account of all connections: to each was written a prefix of the bytes that the pen was given
+    /// at its opening of the slot, and each went through the socket that the side knows of it.
     pub(crate) fn into_parts(self) -> LaneParts<K>
         ensures past { ArePast result.pen.slot result.ledger.past result.pen.witness.seen result.pen.seat.takes }
         ensures counted { result.openings < most_openings → (length result.ledger.past ≡ result.openings) × AreOver result.pen.slot result.ledger.past result.pen.witness.seen }

@@ -11,7 +11,7 @@ use std::io::{Error, ErrorKind, Write};
 /// The packet NOOP (the Gearman PROTOCOL document, "NOOP"): the magic of a response, the type 6, and no data.
 const NOOP: &[u8] = b"\0RES\0\0\0\x06\0\0\0\0";
 
-/// What came of a write, or of those of a message.
+/// The outcome of a write, or of a message's writes.
 #[derive(Clone, Copy, Debug, PartialEq, Eq)]
 pub enum Sent {
     /// The peer took all.
@@ -22,7 +22,7 @@ pub enum Sent {
     Failed,
 }
 
-/// What comes of a write that failed: one that only came too early can be tried again.
+/// The outcome of a write that failed: one that only came too early can be tried again.
 fn sent_on(error: &Error) -> Sent
     ensures { result ≡ sent_on (error_kind error.now) }
 {
@@ -33,7 +33,7 @@ fn sent_on(error: &Error) -> Sent
     }
 }
 
-/// A NOOP, where one was taken.
+/// A NOOP, if one was taken.
 pub(crate) fn noop_if(took: bool) -> &'static [u8]
     ensures { result.now ≡ noop_if took }
 {
@@ -86,7 +86,7 @@ fn write_whole<W: Write>(bytes: &[u8], w: &mut W) -> Result<(), usize>
     Ok(())
 }
 
-/// Writes a message: the drained bytes, and then a NOOP where one was taken. A fault comes where the writer fails or
+/// Writes a message: the drained bytes, and then a NOOP if one was taken. A fault comes if the writer fails or
 /// takes no byte, and says how many bytes of the message were written.
 pub fn write_turn<W: Write>(took: bool, drained: &[u8], w: &mut W) -> Result<(), WriteFault>
     ensures ok { OnOk result (Appends (W.contents w.old) (W.contents w.new) (message_of took drained.now)) }

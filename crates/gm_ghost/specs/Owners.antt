@@ -1,4 +1,4 @@
--- What contracts see of a list's keeper and of its witnesses.
+-- A list's keeper and its witnesses, as contracts see them.
 use Rattle.std.specs.Prelude.{◌≡◌, ℕ, ◌+◌, List, [], ◌∷◌, ◌++◌, None}
 use Rattle.atomic_table.specs.Seated.{TableId}
 use Rattle.atomic_table.specs.declared.shared.Seat.{Seat}

@@ -6,12 +6,12 @@ use atomic_table::{Play, Seat, Table, TableRule};
 use std::alloc::{AllocError, Global};
 use std::marker::{Model, PhantomData};
 
-/// What a value becomes. The call that changes it picks it.
+/// The next value of a ghost. The call that changes it picks one.
 pub trait Worth<V> {
     ghost worth: { V };
 }
 
-/// The table is under no rule: what its one seat knows is what its owner says.
+/// The table is under no rule: its one seat knows whatever its owner says.
 struct Free;
 
 impl<V> TableRule<(), V, V> for Free {
@@ -56,7 +56,8 @@ impl<V> Ghost<V> {
         Ok(Ghost { words, seat })
     }
 
-    /// The value becomes what the call picks, of what it is and of what is passed, which is for the proof alone.
+    /// The value becomes the one that the call picks, by its present value and the arguments, which are only for the
+    /// proof.
     pub fn update<X, E: Worth<V>>(&mut self, _by: &X)
         ensures { self.new ≡ E.worth }
     {

@@ -1,8 +1,8 @@
 //! Values and lists that only proofs know: a value under a lock, or in one thread's hands, can say by them what
-//! happened before. Each changes only where its owner says so, and costs one block of memory and a load for each
+//! happened before. Each changes only when its owner says so, and costs one block of memory and a load for each
 //! change.
 //!
-//! What is said by such a value is as true as what its setters set. These are in the crates above, and are to be read
+//! A statement by such a value is only as true as its setters make it. They are in the crates above, and are to be read
 //! for that.
 #![tactic(auto)]
 

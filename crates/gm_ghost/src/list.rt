@@ -46,7 +46,7 @@ impl<E: Owned> Model for Keeper<E> {
     ghost invariant = { λ k. SitsAtKeeper k.seat };
 }
 
-/// What one actor has seen of the list. It has no bytes. There is one for each actor.
+/// The part of the list that one actor has seen. It has no bytes. There is one for each actor.
 #[derive(Drop)]
 pub struct Witness<E: Owned> {
     badge: Badge<ListView<E>>,
@@ -75,7 +75,7 @@ impl<E: Owned> ListTable<E> {
 }
 
 impl<E: Owned> Keeper<E> {
-    /// The next actor, which has seen what there is.
+    /// The next actor, which has seen the whole list so far.
     pub fn new_witness(&mut self, list: &ListTable<E>) -> Witness<E>
         requires { self.old.table ≡ list.now }
         ensures witness { result ≡ next_witness self.old }
@@ -90,7 +90,7 @@ impl<E: Owned> Keeper<E> {
         }
     }
 
-    /// Adds the entries that the call picks, of what is passed, and lets their actor see the list. It goes on from what
+    /// Adds the entries that the call picks by its arguments, and lets their actor see the list. It goes on from what
     /// the actor had seen, with nothing of the actor between.
     pub fn enter<X, A: Entered<E>>(
         &mut self,

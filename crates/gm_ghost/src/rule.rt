@@ -8,7 +8,7 @@ use crate::view::ListView;
 use atomic_table::{Join, Play, Split, TableRule};
 use std::marker::{Brand, PhantomData};
 
-/// What has an owner, by number: an entry of a list is of one actor.
+/// A value with an owner, by number: an entry of a list is of one actor.
 pub trait Owned {
     ghost owner: { Self → ℕ };
 }

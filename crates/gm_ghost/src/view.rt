@@ -1,14 +1,14 @@
-//! What the seats at a list's table know. No value of these types is made: only proofs speak of them.
+//! The knowledge of the seats at a list's table. No value of these types is made: only proofs speak of them.
 
 use std::collections::LinkedList;
 
-/// What an actor has seen of the list.
+/// The part of the list that an actor has seen.
 pub struct Note<E> {
     pub who: u64,
     pub seen: LinkedList<E>,
 }
 
-/// What the keeper knows: the whole list, the newest entry first; the actors below `made` have a note; and it may hold
+/// The keeper's knowledge: the whole list, the newest entry first; the actors below `made` have a note; and it may hold
 /// one of these notes for a moment.
 pub struct KeeperPage<E> {
     pub log: LinkedList<E>,
@@ -16,7 +16,7 @@ pub struct KeeperPage<E> {
     pub held: Option<Note<E>>,
 }
 
-/// What a seat knows.
+/// The knowledge of a seat.
 pub enum ListView<E> {
     Keeper(KeeperPage<E>),
     Witness(Note<E>),

@@ -12,7 +12,7 @@ fresh_view = record { touches = 0; take_overs = 0; attempts = 0; hand_overs = 0;
 abbrev pub with_touch : ℕ → Hold → LaneView → LaneView
 with_touch word hold view = record view { touches = view.touches + 1; found = word; hold = hold }
 
--- A new seat, by the word that it found: where an attempt is owed anyway, it has touched the lane, and needs no step
+-- A new seat, by the word that it found: if an attempt is owed anyway, it has touched the lane, and needs no step
 -- more.
 abbrev pub entered : ℕ → LaneView
 entered zero = fresh_view
@@ -41,7 +41,7 @@ taken_over word = with_touch word (hold_taken_over word) record fresh_view { tak
 abbrev pub attempted : ℕ → LaneView → LaneView
 attempted unanswered view = record view { attempts = view.attempts + 1; answers = view.answers + unanswered; hold = Attempts }
 
--- a thread that ends an attempt gives up a busy lane, and owes another attempt where it was touched since
+-- a thread that ends an attempt gives up a busy lane, and owes another attempt if it was touched since
 abbrev pub finished : ℕ → ℕ
 finished word = if word == 1 then 0 else word
 
@@ -52,19 +52,19 @@ after_finish word view = record view { hold = if word == 1 then Free else Claims
 abbrev pub handed_over : LaneView → LaneView
 handed_over view = record view { hand_overs = view.hand_overs + 1; hold = Free }
 
--- 1 where a seat has the lane, and 0 otherwise
+-- 1 if a seat has the lane, and 0 otherwise
 abbrev pub has : Hold → ℕ
 has Free = 0
 has Claims = 1
 has Attempts = 1
 
--- 1 where it has the lane and is yet to begin an attempt
+-- 1 if it has the lane and is yet to begin an attempt
 abbrev pub owes : Hold → ℕ
 owes Free = 0
 owes Claims = 1
 owes Attempts = 0
 
--- 1 where the word says that a thread has the lane
+-- 1 if the word says that a thread has the lane
 abbrev pub taken : ℕ → ℕ
 taken zero = 0
 taken (suc zero) = 1

@@ -1,11 +1,11 @@
--- What callers see of a seat.
+-- A seat, as its callers see it.
 use Rattle.std.specs.Prelude.{◌≡◌, ◌⊎◌, ℕ, ◌+◌, []}
 use Rattle.atomic_table.specs.Seated.{TableId}
 use Rattle.atomic_table.specs.declared.shared.Seat.{Seat}
 use Rattle.gm_lane_word.specs.declared.view.Hold.{Hold}
 use Rattle.gm_lane_word.specs.declared.view.LaneView.{LaneView}
 
--- what a thread did at a lane: touches, those among them that were take-overs, attempts that were begun, and
+-- a thread's work at a lane: touches, those among them that were take-overs, attempts that were begun, and
 -- hand-overs; and the word that its last touch found, or that it found when it came
 pub record Count : Type 0 where
   pub lane : TableId
@@ -23,7 +23,7 @@ one_touch lane found = record { lane = lane; touches = 1; take_overs = 0; attemp
 abbrev pub one_take_over : TableId → ℕ → Count
 one_take_over lane found = record { lane = lane; touches = 1; take_overs = 1; attempts = 0; hand_overs = 0; found = found }
 
--- a touch has the lane where it found that it was idle
+-- a touch has the lane if it found that it was idle
 abbrev pub Touched : TableId → Count → Type 0
 Touched lane count = (count ≡ one_touch lane count.found) × (count.found ≡ 0)
 
@@ -31,7 +31,7 @@ Touched lane count = (count ≡ one_touch lane count.found) × (count.found ≡ 
 abbrev pub LeftToOthers : TableId → Count → Type 0
 LeftToOthers lane count = (count ≡ one_touch lane count.found) × (count.found ≡ 0 → ⊥)
 
--- a take-over has the lane where it found that it was idle or left
+-- a take-over has the lane if it found that it was idle or left
 abbrev pub TakenOver : TableId → Count → Type 0
 TakenOver lane count = (count ≡ one_take_over lane count.found) × (count.found ≡ 0 ⊎ count.found ≡ 3)
 
@@ -47,7 +47,7 @@ with_attempt count = record count { attempts = count.attempts + 1 }
 abbrev pub with_hand_over : Count → Count
 with_hand_over count = record count { hand_overs = count.hand_overs + 1 }
 
--- what a seat has counted
+-- the counts of a seat
 abbrev pub count_of : Seat (Unit {0}) LaneView → Count
 count_of seat =
     record { lane = seat.table_id; touches = seat.me.0.touches; take_overs = seat.me.0.take_overs; attempts = seat.me.0.attempts; hand_overs = seat.me.0.hand_overs; found = seat.me.0.found }

@@ -10,11 +10,11 @@ use Rattle.gm_lane_word.specs.Lane.{owners_of, owing_of}
 
 -- One atomic step, of one of the six kinds.
 pub data Step (word : ℕ) (views : List LaneView) : ℕ → List LaneView → Type 0 where
-  -- a new seat comes, and has touched the lane where an attempt is owed anyway
+  -- a new seat comes, and has touched the lane if an attempt is owed anyway
   enters : Step word views word (views ++ entered word ∷ [])
   -- a seat touches the lane: idle and busy become claimed, and left stays
   touches : (seat : ℕ) (view : LaneView) → get_elem? views seat ≡ some view → Step word views (max word 2) (slice_set views seat (touched word view))
-  -- a new seat, the finisher's, touches the lane, and takes it over where it is left
+  -- a new seat, the finisher's, touches the lane, and takes it over if it is left
   takes_over : Step word views 2 (views ++ taken_over word ∷ [])
   -- the thread that has the lane and owes an attempt begins one: it follows all touches so far
   attempts : (seat : ℕ) (view : LaneView) → get_elem? views seat ≡ some view → view.hold ≡ Claims
@@ -37,8 +37,8 @@ pub record IsLane (words : List ℕ) (views : List LaneView) : Type 0 where
   pub one : words ≡ word ∷ []
   pub reached : Reached word views
 
--- The rule of the word. One seat has the lane exactly where the word says so, and it has begun an attempt where the
--- word is busy; and no touch is without an attempt where the word is idle or busy.
+-- The rule of the word. One seat has the lane exactly if the word says so, and it has begun an attempt if the word is
+-- busy; and no touch is without an attempt if the word is idle or busy.
 pub record Keeps (word : ℕ) (views : List LaneView) : Type 0 where
   pub small : word < 4
   pub owner : owners_of views ≡ taken word
@@ -51,7 +51,7 @@ pub data IsClaimed (word : ℕ) (views : List LaneView) : Type 0 where
   by_owner : (seat : ℕ) (view : LaneView) → get_elem? views seat ≡ some view → view.hold ≢ Free → word ≡ 2 → IsClaimed word views
   by_finisher : word ≡ 3 → IsClaimed word views
 
--- what each kind of step tells the seat that makes it
+-- the result of each kind of step, for the seat that makes it
 abbrev pub TellsEnter : Operands (Unit {0}) → Me (Unit {0}) LaneView → ℕ → Me (Unit {0}) LaneView → Type 0
 TellsEnter step before found after = after ≡ (entered found, [])
 

@@ -1,4 +1,4 @@
-//! What is due to a slot.
+//! A delivery that is due to a slot.
 
 ghost use Rattle.std.specs.Prelude.{◌≡◌};
 

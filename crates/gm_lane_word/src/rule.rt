@@ -15,21 +15,21 @@ impl TableRule<(), LaneView, ()> for LaneRule {
     ghost first = { λ _. fresh_view };
 }
 
-/// A new seat comes, and has touched the lane where an attempt was owed anyway.
+/// A new seat comes, and has touched the lane if an attempt was owed anyway.
 pub(crate) struct Enter;
 
 impl Play<(), LaneView> for Enter {
     ghost then = { TellsEnter };
 }
 
-/// A seat touches the lane, and has it where nobody had it.
+/// A seat touches the lane, and has it if no seat had it.
 pub(crate) struct Touch;
 
 impl Play<(), LaneView> for Touch {
     ghost then = { TellsTouch };
 }
 
-/// A new seat touches the lane, and has it where nobody had it or it was left.
+/// A new seat touches the lane, and has it if no seat had it or it was left.
 pub(crate) struct TakeOver;
 
 impl Play<(), LaneView> for TakeOver {

@@ -4,7 +4,7 @@ use crate::view::LaneView;
 use atomic_table::Seat;
 use std::marker::Model;
 
-/// What was done at a lane by a thread that doesn't have it any more, or never had it.
+/// The tally of a thread's work at a lane, once the thread doesn't have the lane any more or never had it.
 ///
 /// Contracts see which lane, and what was done at it.
 #[derive(Drop)]

@@ -1,6 +1,6 @@
-//! What the seats at a lane's word know. No value of these types is made: only proofs speak of them.
+//! The knowledge of the seats at a lane's word. No value of these types is made: only proofs speak of them.
 
-/// What a seat has of the lane.
+/// A seat's hold on the lane.
 pub enum Hold {
     /// Nothing.
     Free,
@@ -10,7 +10,7 @@ pub enum Hold {
     Attempts,
 }
 
-/// What a seat knows: what it has done at the lane so far, and what it has of it.
+/// The knowledge of a seat: its work at the lane so far, and its hold on the lane.
 pub struct LaneView {
     /// How often it touched the lane.
     pub touches: u64,

@@ -13,13 +13,13 @@ use atomic_table::Table;
 use std::alloc::{AllocError, Global};
 use std::marker::{Model, PhantomData};
 
-// Nobody has the lane, and no touch is without an attempt.
+// No thread has the lane, and no touch is without an attempt.
 pub(crate) const IDLE: u64 = 0;
 
-// Somebody has the lane, and began an attempt after the last touch.
+// A thread has the lane, and began an attempt after the last touch.
 pub(crate) const BUSY: u64 = 1;
 
-// Somebody has the lane, and is yet to begin an attempt.
+// A thread has the lane, and is yet to begin an attempt.
 pub(crate) const CLAIMED: u64 = 2;
 
 // The slot's finisher is to take the lane over.
@@ -88,7 +88,7 @@ impl<T> LaneWord<T> {
         Ok(Tally { seat })
     }
 
-    /// Touches the lane as the slot's finisher, which has it now where no thread had it or it was left: when it starts,
+    /// Touches the lane as the slot's finisher, which has it now if no thread had it or it was left: when it starts,
     /// since the last connection may have left the lane to its finisher, and whenever it is woken. An error means that
     /// another thread tries, after this touch.
     pub fn take_over<'a>(&'a self) -> Result<Claim<'a, T>, Tally>
@@ -103,7 +103,7 @@ impl<T> LaneWord<T> {
         }
     }
 
-    /// The same, where the lane was left to it. An error means that it wasn't, or that another thread has taken it over
+    /// The same, if the lane was left to it. An error means that it wasn't, or that another thread has taken it over
     /// since.
     pub fn take_over_left<'a>(&'a self) -> Result<Claim<'a, T>, Tally>
         ensures { MatchResult result (TakenOver self.now) (λ tally. (tally.lane ≡ self.now) × (tally.found ≡ 3 → ⊥) × (tally.attempts ≡ 0) × (tally.hand_overs ≡ 0)) }

@@ -1,4 +1,4 @@
--- What a thread serves, and in which order.
+-- The slots that a thread serves, and in which order.
 use Rattle.std.specs.Prelude.{◌≡◌, ℕ, ◌+◌, ◌*◌, ◌<◌, nat_lt, ◌==◌, Bool, true, false, ◌&&◌, ◌||◌, not, IsTrue, if◌then◌else◌}
 use Rattle.std.specs.Prelude.{List, [], ◌∷◌, ◌++◌, length, drop, count_by, slice_get, slice_index_or, slice_set, Option, Some, None, MatchOption, ◌⊎◌}
 use Rattle.std.specs.Prelude.{◌-◌, ◌/◌, leb, ◌^◌, bit_and, zero, suc}
@@ -47,7 +47,7 @@ pub record IsOrderly (p : PollerState) : Type 0 where
   pub slots : (at : ℕ) → at < length p.calls → (call_at p.calls at).slot ≡ p.thread + at * p.count
   pub apart : 0 < p.count
 
--- The poller has a position for the first slot and for each that lies so far behind the one before, below this number
+-- The poller has a position for the first slot and for each that comes this far after the one before, below this number
 -- of slots. None of them is to be served yet.
 pub record IsNew (first apart slots : ℕ) (p : PollerState) : Type 0 where
   pub thread : p.thread ≡ first
@@ -77,7 +77,7 @@ reported is_odd call = record call { is_odd = call.is_odd || is_odd; is_ready = 
 abbrev pub position_of : Event → PollerState → ℕ
 position_of event p = (event_token event).0 / p.count
 
--- More may be there than the event says, behind a short read.
+-- More may be there than the event says, after a short read.
 abbrev pub is_odd : Event → Bool
 is_odd event = is_read_closed event || is_priority event
 
@@ -106,7 +106,7 @@ marked first bits (suc count) p =
     let before = marked first bits count p in
     if bit_and bits (2 ^ count) == 0 then before else called (first + count) before
 
--- the poller once the marked ones were woken of 64 positions for each word, of which the last comes first
+-- the poller once the marked ones were woken of 64 positions for each word, the last word first
 abbrev pub all_marked : List ℕ → PollerState → PollerState
 all_marked [] p = p
 all_marked (bits ∷ before) p = marked (length before * 64) bits 64 (all_marked before p)
@@ -120,7 +120,7 @@ looked_at (at ∷ again) p = looked_at again (called at (record p { calls = slic
 abbrev pub next_position : PollerState → Option ℕ
 next_position p = slice_get (p.ready ++ p.behind) 0
 
--- the queues without it: one with more to do has its turn only where no other waits
+-- the queues without it: one with more to do has its turn only when no other waits
 abbrev pub rest_of : List ℕ → List ℕ → List ℕ × List ℕ
 rest_of [] behind = ([], drop 1 behind)
 rest_of (_ ∷ ready) behind = (ready, behind)
@@ -131,7 +131,7 @@ without_first at p =
     let rest = rest_of p.ready p.behind in
     record p { calls = slice_set p.calls at (record (call_at p.calls at) { is_woken = false; is_ready = false }); ready = rest.0; behind = rest.1 }
 
--- The position whose turn is next has it, and its call is the answer, with the position's slot. Where none is to be
+-- The position whose turn is next has it, and its call is the answer, with the position's slot. If none is to be
 -- served, nothing changes.
 abbrev pub TakesTurn : Option Call → PollerState → PollerState → Type 0
 TakesTurn result old new = MatchOption (next_position old) ((result ≡ None) × (new ≡ old))
@@ -156,7 +156,7 @@ pub record KeepsCall (old new : Call) : Type 0 where
   pub ready : IsTrue old.is_ready → IsTrue new.is_ready
   pub again : IsTrue old.is_again → IsTrue new.is_again ⊎ (IsTrue new.is_ready × IsTrue new.is_woken)
 
--- No position that is to be served leaves or moves. More may be ready, behind those that are.
+-- No position that is to be served leaves or moves. More may be ready, after those that are.
 pub record Heeds (old new : PollerState) : Type 0 where
   pub thread : new.thread ≡ old.thread
   pub count : new.count ≡ old.count
@@ -166,7 +166,7 @@ pub record Heeds (old new : PollerState) : Type 0 where
   pub behind : new.behind ≡ old.behind
   pub calls : (at : ℕ) → KeepsCall (call_at old.calls at) (call_at new.calls at)
 
--- The event's slot is to be served, and more may be there behind a short read, if the event says so.
+-- The event's slot is to be served, and more may be there after a short read, if the event says so.
 pub record IsHeard (p : PollerState) (event : Event) : Type 0 where
   pub ready : position_of event p < length p.calls → IsTrue (call_at p.calls (position_of event p)).is_ready
   pub odd : position_of event p < length p.calls → IsTrue (is_odd event) → IsTrue (call_at p.calls (position_of event p)).is_odd
@@ -180,8 +180,8 @@ abbrev pub is_while : ℕ → Option Instant → Option Instant → Bool
 is_while milliseconds (Some from) (Some to) = leb (milliseconds * 1_000_000) (instant_nanos to - instant_nanos from)
 is_while milliseconds _ _ = true
 
--- A poller asked the system once, and what came is behind what was to be served before, in this order: each event that
--- was reported, the marked ones of each 64 slots, and, where it was time for that, those to look at again. There is
+-- A poller asked the system once, and what came is after what was to be served before, in this order: each event that
+-- was reported, the marked ones of each 64 slots, and, if it was time for that, those to look at again. There is
 -- nothing else.
 pub record Wakes (old new : PollerState) : Type 0 where
   pub words : List ℕ

@@ -1,4 +1,4 @@
--- What a connection is watched for.
+-- The events that a connection is watched for.
 use Rattle.std.specs.Prelude.{true}
 use Rattle.mio.specs.declared.interest.Interest.{Interest}
 

@@ -1,4 +1,4 @@
-//! What threads that wait for many connections share with others.
+//! The ends of polling threads that all threads share: they register connections, mark slots and wake threads.
 
 ghost use Rattle.std.specs.Prelude.{◌≡◌, ◌+◌, ◌*◌, ◌<◌, ◌≤◌, All, IfOk, length, max};
 ghost use Rattle.std.specs.Int.{div_ceil};
@@ -15,11 +15,11 @@ use std::net::Net;
 use std::os::fd::RawFd;
 use std::sync::atomic::{AtomicU64, Ordering};
 
-/// What a thread's waker is registered as. No slot has this number.
+/// The token of a thread's waker. No slot has this number.
 const WAKER: Token = Token(usize::MAX);
 
-/// What a connection is watched for: that bytes come, that it takes bytes again, and urgent data, since these end a
-/// read, so that what is behind them has to be reported again.
+/// The events that a connection is watched for: bytes come, it takes bytes again, or urgent data come, since these end
+/// a read, so that the bytes after them have to be reported again.
 fn interests() -> Interest
     ensures { result ≡ watched }
 {
@@ -75,7 +75,7 @@ impl Mailbox {
 
     /// Wakes the thread.
     fn wake(&self) {
-        // Where it fails, the thread looks within a second.
+        // If it fails, the thread looks within a second.
         let _ = self.waker.wake();
     }
 }
@@ -109,8 +109,9 @@ impl Hub {
         Ok((Hub { mailboxes }, pollers))
     }
 
-    /// Has what comes at this descriptor reported to the slot's thread, and that it takes bytes again, until it is
-    /// closed. It says as what the descriptor is watched, and what for.
+    /// Has events of this descriptor reported to the slot's thread until it is closed: bytes come, or it takes bytes
+    /// again. It answers the token and the events for which the descriptor is watched. An error is epoll_ctl(2)'s, or
+    /// `NotFound` if there is no thread.
     pub fn register(&self, slot: u32, fd: RawFd) -> io::Result<(Token, Interest)>
         ensures { IfOk result (λ watch. (watch.0.0 ≡ slot) × (watch.1 ≡ watched)) }
     {
@@ -131,7 +132,7 @@ impl Hub {
             return;
         };
         if let Some(word) = mailbox.marks.get(position / MARKS) {
-            // Where it is set already, the thread that set it woke this one.
+            // If it is set already, the thread that set it woke this one.
             let bit = 1 << (position % MARKS);
             if word.fetch_or(bit, Ordering::SeqCst) & bit == 0 {
                 mailbox.wake();

@@ -1,4 +1,4 @@
-//! What a thread waits at.
+//! A thread's poller: it waits for the connections of the thread's slots.
 
 ghost use Rattle.std.specs.Prelude.{◌≡◌, ◌+◌, ◌/◌, ◌^◌, ◌<◌, ◌&&◌, ◌||◌, ◌⊎◌, ℕ, List, not, true, IsTrue, IfOk, All, max, nat_lt, length, slice_set};
 ghost use Rattle.std.specs.Int.{div_ceil};
@@ -58,7 +58,7 @@ pub struct Call {
     pub slot: u32,
     /// It was woken, or is to be looked at again: not only its socket was reported.
     pub is_woken: bool,
-    /// More may be there behind a short read: the peer closed its side, or an urgent byte cut the read short.
+    /// More may be there after a short read: the peer closed its side, or an urgent byte cut the read short.
     pub is_odd: bool,
     /// It is among those to serve.
     is_ready: bool,
@@ -66,13 +66,12 @@ pub struct Call {
     is_again: bool,
 }
 
-/// What a thread waits at, for the slots that it serves. It finds all its memory when it is made. Contracts see which
-/// of its slots are to be served and in which order, and why, and for how long it last asked the system and what that
-/// reported.
+/// Waits for the slots that a thread serves. It finds all its memory when it is made. Contracts see which of its slots
+/// are to be served and in which order, and why, and for how long it last asked the system and what that reported.
 #[derive(Drop)]
 pub struct Poller {
     poll: Poll,
-    // What was reported when it was asked last, and how many milliseconds that could take at most.
+    // The events that the system reported last, and how many milliseconds that could take at most.
     events: Events,
     time: u64,
     /// The thread's number, which is its first slot's, and how many threads there are, so how far its slots are apart.
@@ -81,7 +80,7 @@ pub struct Poller {
     calls: Vec<Call>,
     // The slots to serve that were reported or woken, each once, so that there is room for all.
     ready: VecDeque<usize>,
-    // Slots with more to do after their turn: they come behind the others. A slot is in at most one of the two, once.
+    // Slots with more to do after their turn: they come after the others. A slot is in at most one of the two, once.
     behind: VecDeque<usize>,
     // Those to look at again, each once.
     again: VecDeque<usize>,
@@ -118,7 +117,7 @@ impl Poller {
     {
         let count = count.max(1);
         let mut calls = Vec::new(alloc);
-        // The number behind the last slot's may be past a u32.
+        // The number after the last slot's may be more than a u32 holds.
         let mut slot = u64::from(thread);
         while slot < u64::from(slots) {
             calls.push(Call {
@@ -151,8 +150,8 @@ impl Poller {
         self.ready.len().saturating_add(self.behind.len())
     }
 
-    /// Waits until there are slots to serve, or for a second. What came meanwhile is to be served: each event that the
-    /// system reported, each mark that others made, and what is to be looked at again.
+    /// Waits until there are slots to serve, or for a second. All that came meanwhile is to be served: each event that
+    /// the system reported, each mark that others made, and what is to be looked at again.
     pub fn wait(&mut self, rt: &impl Clock, hub: &Hub)
         ensures time { self.new.time ≡ longest_wait self.old }
         ensures wakes { Wakes self.old self.new }
@@ -167,8 +166,8 @@ impl Poller {
         self.look_again(rt);
     }
 
-    /// How many milliseconds it may wait: not where there are slots to serve, and less long where some are to be looked
-    /// at again.
+    /// How many milliseconds it may wait: not at all if there are slots to serve, and less long if some are to be
+    /// looked at again.
     fn longest_wait(&self) -> u64
         ensures { result ≡ longest_wait self.now }
     {
@@ -188,7 +187,7 @@ impl Poller {
     {
         // Modelled in models/polling.pml.
         self.time = time;
-        // Where it fails, there are no events.
+        // If it fails, there are no events.
         let _ = self
             .poll
             .poll(&mut self.events, Some(Duration::from_millis(self.time)));
@@ -244,7 +243,7 @@ impl Poller {
         queue_up(&mut self.ready, &mut call.is_ready, at, true);
     }
 
-    /// Looks again at those that are to be, where it is time.
+    /// Looks again at those that are to be, if it is time.
     fn look_again(&mut self, rt: &impl Clock)
         ensures { (self.new ≡ self.old) ⊎ (self.new ≡ looked_at self.old.again self.old) }
     {
@@ -308,7 +307,7 @@ impl Poller {
     }
 }
 
-/// Whether it is a while from the one time to the other. It is where a time isn't known.
+/// Whether a while has passed from one time to the other. It has if a time isn't known.
 fn is_while(from: &Option<Instant>, to: &Option<Instant>) -> bool
     ensures { result ≡ is_while AGAIN_MS from.now to.now }
 {

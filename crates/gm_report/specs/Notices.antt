@@ -21,7 +21,7 @@ cleared Well = Well
 cleared Due = Due
 cleared Said = Well
 
--- what is due is said
+-- a notice that is due is written
 abbrev pub spoken : Notice → Notice
 spoken Well = Well
 spoken Due = Said

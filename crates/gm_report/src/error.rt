@@ -9,7 +9,7 @@ use thiserror::Error;
 /// Why a server can't serve.
 #[derive(Clone, Copy, Debug, PartialEq, Eq, Drop, Error)]
 pub enum ServeError {
-    /// There was no memory for the book, for what its threads share, or for what is compared in the end; or a
+    /// There was no memory for the book, for the state that its threads share, or for the comparison in the end; or a
     /// connection's end couldn't be entered on the tape.
     #[error("out of memory")]
     Memory = 6,
@@ -33,7 +33,7 @@ impl ServeError {
         self as u8
     }
 
-    /// The status that a program ends with whose server ended so.
+    /// The exit status of a program whose server ended so.
     pub fn status(self) -> u8
         ensures { result ≡ serve_error_status self }
     {

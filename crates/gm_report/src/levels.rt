@@ -1,18 +1,18 @@
-//! How weighty it is what is said, where the journal reads that.
+//! Levels of messages, for the journal.
 
 use std::env::{Env, FillError};
 
-/// Whether what is said begins with its level, as sd-daemon(3) has it: `<3>` for an error, `<4>` for a warning.
+/// Whether messages begin with their level, as sd-daemon(3) has it: `<3>` for an error, `<4>` for a warning.
 #[derive(Clone, Copy, Debug, PartialEq, Eq)]
 pub enum Levels {
-    /// Each line is said as it is.
+    /// Each line is written as it is.
     Unsaid,
-    /// The journal reads what is said: `journalctl -p warning` shows errors and warnings.
+    /// The journal reads the messages: `journalctl -p warning` shows errors and warnings.
     Journal,
 }
 
 impl Levels {
-    /// With levels where systemd says that the journal reads what the service says (`JOURNAL_STREAM`, systemd.exec(5)).
+    /// With levels if systemd says that the journal reads the service's messages (`JOURNAL_STREAM`, systemd.exec(5)).
     pub fn of_environment(rt: &impl Env) -> Levels {
         let mut place = [0; 64];
         match rt.var("JOURNAL_STREAM", &mut place) {
@@ -21,7 +21,7 @@ impl Levels {
         }
     }
 
-    /// What a warning begins with.
+    /// The beginning of a warning: its level, or nothing.
     pub(crate) fn warning(self) -> &'static str {
         match self {
             Levels::Unsaid => "",
@@ -29,7 +29,7 @@ impl Levels {
         }
     }
 
-    /// What an error begins with.
+    /// The beginning of an error: its level, or nothing.
     pub fn error(self) -> &'static str {
         match self {
             Levels::Unsaid => "",

@@ -1,4 +1,4 @@
-//! What a server tells its operators: on standard error, to systemd, and when it ends.
+//! Reports to operators: on standard error, to systemd, and at the server's end.
 #![tactic(auto)]
 
 mod error;

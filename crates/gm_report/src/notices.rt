@@ -1,4 +1,4 @@
-//! What is to be said to operators, and when: a trouble once, and again only after it was over; each type of packet
+//! The notices for operators: a trouble is reported once, and again only after it was over; each type of packet
 //! that `gmd` doesn't serve once, for the first 64 such types.
 
 ghost use Rattle.std.specs.Prelude.{◌≡◌, ◌++◌, ◌∷◌, [], ◌&&◌, not, true, false, take};
@@ -14,7 +14,7 @@ use std::net::SocketAddr;
 /// How many kinds of trouble there are.
 pub(crate) const TROUBLES: usize = 8;
 
-/// How many types of packets are said that aren't requests. No peer can fill standard error with more.
+/// How many types of packets that aren't requests are reported. No peer can fill standard error with more.
 const MOST_TYPES: usize = 64;
 
 /// The packet type of GRAB_JOB_ALL, which is served only with `--as-gearmand`.
@@ -37,31 +37,31 @@ pub enum Trouble {
     Descriptors,
     /// The system doesn't hand it over for another reason, so that it waits.
     Accept,
-    /// None: systemd can't be told how the server is.
+    /// It is served: systemd can't be told the server's status.
     Notify,
 }
 
-/// A trouble is said once, and again only after it was well in between.
+/// A trouble is reported once, and again only after it was well in between.
 #[derive(Clone, Copy, PartialEq, Eq)]
 enum Notice {
     Well,
-    /// It is to be said.
+    /// It is to be reported.
     Due,
     Said,
 }
 
-/// What is to be said of a trouble, or was.
+/// A trouble, and whether it is to be reported or was.
 #[derive(Clone, Copy)]
 pub(crate) struct Remark {
     notice: Notice,
-    /// How often it was met since it was said.
+    /// How often it was met since it was reported.
     count: u64,
     /// The system's error.
     error: i32,
 }
 
 impl Remark {
-    /// The trouble is met, for this error of the system's. It says whether that is to be said.
+    /// The trouble is met, for this error of the system's. The answer is whether that is to be reported.
     fn meet(&mut self, error: i32) -> bool
         ensures due { result ≡ is_well self.old.notice }
         ensures notice { self.new.notice ≡ met self.old.notice }
@@ -78,7 +78,7 @@ impl Remark {
         }
     }
 
-    /// The trouble is over: where it comes again, it is said again.
+    /// The trouble is over: if it comes again, it is reported again.
     pub(crate) fn clear(&mut self)
         ensures { self.new.notice ≡ cleared self.old.notice }
     {
@@ -88,7 +88,7 @@ impl Remark {
         }
     }
 
-    /// It is said, if it is due.
+    /// It is reported, if it is due.
     fn say(&mut self)
         ensures { self.new.notice ≡ spoken self.old.notice }
     {
@@ -101,7 +101,7 @@ impl Remark {
         }
     }
 
-    /// How often it was met, and the system's error, if it is to be said.
+    /// How often it was met, and the system's error, if it is to be reported.
     pub(crate) fn due(&self) -> Option<(u64, i32)> {
         match self.notice {
             Notice::Due => Some((self.count, self.error)),
@@ -110,7 +110,7 @@ impl Remark {
     }
 }
 
-/// What is to be said, or was.
+/// The notices for operators: those to write, and those that were written.
 #[derive(Clone, Copy)]
 pub(crate) struct Notices {
     pub(crate) troubles: [Remark; TROUBLES],
@@ -125,16 +125,16 @@ pub(crate) struct Notices {
     /// peer that sent the first such packet.
     types: [(u32, Option<SocketAddr>); MOST_TYPES],
     type_count: usize,
-    /// How many of them were said.
+    /// How many of them were reported.
     said_types: usize,
-    /// How many grabs of the type GRAB_JOB_ALL came since that was last said, and when it was, in milliseconds.
+    /// How many grabs of the type GRAB_JOB_ALL came since that was last reported, and when it was, in milliseconds.
     grabs: u64,
     grabs_said_ms: u64,
-    /// How many of these are to be said.
+    /// How many of these are to be reported.
     pub(crate) due_grabs: u64,
-    /// There is something to be said.
+    /// There is something to be reported.
     pub(crate) is_due: bool,
-    /// How the server ended, and whether that was said.
+    /// How the server ended, and whether that was reported.
     pub(crate) outcome: Option<Result<Summary, ServeError>>,
     pub(crate) is_end_said: bool,
     /// There is a thread that speaks.
@@ -168,7 +168,7 @@ impl Notices {
         }
     }
 
-    /// There is trouble, for this error of the system's. It says whether that is to be said.
+    /// There is trouble, for this error of the system's. The answer is whether that is to be reported.
     pub(crate) fn meet(&mut self, trouble: Trouble, error: i32) -> bool {
         match trouble {
             Trouble::Slots | Trouble::Memory | Trouble::Threads | Trouble::Events => {
@@ -199,7 +199,7 @@ impl Notices {
             .any(|one| one.0 == kind)
     }
 
-    /// A packet of this type came from this peer, which isn't a request's. It says whether that is to be said: the
+    /// A packet of this type came from this peer, which isn't a request's. It says whether that is to be reported: the
     /// first time, while there is a place for the type.
     pub(crate) fn note(&mut self, kind: u32, peer: Option<SocketAddr>) -> bool
         ensures first { result ≡ (nat_lt self.old.type_count 64 && not (list_any (is_of_type kind) (take self.old.type_count self.old.types))) }
@@ -217,7 +217,7 @@ impl Notices {
     }
 
     /// At this time, in milliseconds, a grab of the type GRAB_JOB_ALL came that isn't the first. It says whether that
-    /// is to be said: once a minute.
+    /// is to be reported: once a minute.
     pub(crate) fn count_grab(&mut self, now_ms: u64) -> bool
         ensures { result ≡ nat_le 60000 (now_ms - self.old.grabs_said_ms) }
     {
@@ -232,19 +232,19 @@ impl Notices {
         true
     }
 
-    /// The first grab of the type GRAB_JOB_ALL came at this time, in milliseconds, which is said with its type.
+    /// The first grab of the type GRAB_JOB_ALL came at this time, in milliseconds, which is reported with its type.
     pub(crate) fn begin_grabs(&mut self, now_ms: u64) {
         self.grabs_said_ms = now_ms;
     }
 
-    /// The types that are to be said, each with the peer that sent the first such packet.
+    /// The types that are to be reported, each with the peer that sent the first such packet.
     pub(crate) fn due_types(&self) -> &[(u32, Option<SocketAddr>)] {
         self.types
             .get(self.said_types..self.type_count)
             .unwrap_or(&[])
     }
 
-    /// What was due is said.
+    /// Marks all that was due as written.
     pub(crate) fn take(&mut self) {
         self.is_due = false;
         self.said_types = self.type_count;

@@ -1,4 +1,4 @@
-//! How the status of a server is told: that it is ready, how many slots it uses, how many connections it refused and
+//! How a server's status is reported: that it is ready, how many slots it uses, how many connections it refused and
 //! cut, and how many packets it didn't serve.
 
 use crate::notices::Trouble;
@@ -27,19 +27,20 @@ pub(crate) struct Report {
     pub(crate) not_served: u64,
 }
 
-/// Tells how a server is: an output that it listens, and systemd that it is ready (sd_notify(3)), and then its status.
+/// Reports a server's state: to an output that it listens, and to systemd that it is ready (sd_notify(3)) and its
+/// status.
 #[derive(Drop)]
 pub struct Announcer<'w, W> {
     output: &'w mut W,
-    /// The output took what it was told.
+    /// Whether the output took the announcement.
     pub is_well: bool,
     /// The server serves what was written for gearmand unchanged.
     as_gearmand: bool,
-    /// Where systemd listens, if it is told.
+    /// Where systemd listens, if it gets reports.
     systemd: io::Result<Option<Address>>,
-    /// It was told that the server is ready.
+    /// Whether systemd knows that the server is ready.
     is_ready: bool,
-    /// What it was told last.
+    /// The report that it got last.
     told: Option<Report>,
 }
 
@@ -85,7 +86,7 @@ impl<'w, W: Write> Announcer<'w, W> {
         self.is_well
     }
 
-    /// Sends systemd a message, if it is told, and says whether that is done. If it fails, that is said.
+    /// Sends systemd a message, if it gets reports, and says whether that is done. A failure is reported as a trouble.
     fn send(&self, rt: &impl Wait, speaker: &Speaker, message: &[u8]) -> bool {
         let outcome = match &self.systemd {
             Ok(Some(address)) => send_message(address, message),
@@ -109,8 +110,8 @@ impl<'w, W: Write> Announcer<'w, W> {
         self.is_ready = self.send(rt, speaker, b"READY=1");
     }
 
-    /// Tells systemd how the service is, unless that is what was told last. It has this many connections open, of this
-    /// many slots.
+    /// Reports the service's status to systemd, unless it is the one that was reported last. The server has this many
+    /// connections open, of this many slots.
     pub fn tell(&mut self, rt: &impl Wait, speaker: &Speaker, connections: u64, slots: u32) {
         let report = speaker.report(rt, connections, slots);
         if !self.is_ready {

@@ -1,5 +1,5 @@
-//! What is said on standard error while a server runs and when it ends: by a thread of its own, so that no other waits
-//! for whoever reads that.
+//! Messages on standard error while a server runs and when it ends: a thread of its own writes them, so that no other
+//! waits for their reader.
 
 use crate::error::ServeError;
 use crate::levels::Levels;
@@ -15,7 +15,7 @@ use std::thread;
 use std::thread::Threads;
 use std::time::{Clock, Duration};
 
-/// Where other threads leave what is to be said.
+/// Where other threads leave the notices to write.
 #[derive(Drop)]
 pub struct Speaker {
     remarks: Mutex<Notices>,
@@ -159,7 +159,7 @@ impl Speaker {
     }
 }
 
-/// Says what is due. If standard error fails, there is nobody to tell.
+/// Writes the notices that are due. If standard error fails, they are lost.
 fn say_due(rt: &impl Eprint, level: &'static str, remarks: &Notices, slots: u32) {
     for (kind, peer) in remarks.due_types() {
         say_type(rt, level, *kind, peer);
@@ -173,7 +173,7 @@ fn say_due(rt: &impl Eprint, level: &'static str, remarks: &Notices, slots: u32)
     say_troubles(rt, level, &remarks.troubles, slots);
 }
 
-/// What helps a worker that grabs by GRAB_JOB_ALL.
+/// The advice for a worker that grabs by GRAB_JOB_ALL.
 const GRAB_CURE: &str =
     ": start gmd with --as-gearmand, or the worker with the option GEARMAN_WORKER_GRAB_UNIQ";
 

@@ -1,4 +1,4 @@
-//! What systemd and a service tell each other: which sockets are handed over to it (sd_listen_fds(3)), and that it is
+//! Messages between systemd and a service: which sockets are handed over to it (sd_listen_fds(3)), and that it is
 //! ready (sd_notify(3)).
 
 ghost use Rattle.std.specs.Prelude.{◌≤◌};
@@ -16,13 +16,13 @@ use std::{io, str};
 /// The number of the first socket that is handed over.
 const FIRST_SOCKET: RawFd = 3;
 
-/// Where the name begins in the address of a Unix socket (unix(7)), behind its family.
+/// Where the name begins in the address of a Unix socket (unix(7)), after its family.
 const NAME_AT: usize = 2;
 
 /// Where it ends at the latest.
 const NAME_END: usize = 110;
 
-/// The number that a variable of the environment says: 0 where it isn't there, and `None` where it says another text.
+/// The number that a variable of the environment says: 0 if it isn't there, and `None` if it says another text.
 fn number_in(rt: &impl Env, name: &str) -> Option<u32> {
     let mut text = [0; 16];
     match rt.var(name, &mut text) {
@@ -32,8 +32,8 @@ fn number_in(rt: &impl Env, name: &str) -> Option<u32> {
     }
 }
 
-/// How many sockets the environment hands to this process (sd_listen_fds(3)): 0 where it speaks to another process, and
-/// `None` where it says no number.
+/// How many sockets the environment hands to this process (sd_listen_fds(3)): 0 if it speaks to another process, and
+/// `None` if it says no number.
 pub fn handed_sockets(rt: &impl Env) -> Option<u32> {
     if number_in(rt, "LISTEN_PID") == Some(getpid().unsigned_abs()) {
         number_in(rt, "LISTEN_FDS")

@@ -1,4 +1,4 @@
--- What came of events, for the threads that are notified.
+-- The effects of events, for the threads that are notified.
 use Rattle.std.specs.Prelude.{◌≡◌, ◌<◌, ◌≤◌, ℕ, ◌==◌, Bool, true, false, not, ◌&&◌, List, [], Option, Some, None, Result, Ok, Err}
 use Rattle.gm_conns.specs.Slots.{has}
 use Rattle.gm_lane_word.specs.declared.due.Due.{Due}
@@ -17,7 +17,7 @@ pub record EffectsState : Type 0 where
   pub touched : List ℕ
   pub mode : Mode
 
--- nothing came of anything: no slot is touched, and the server goes on
+-- no effects: no slot is touched, and the server goes on
 pub record IsNothing (effects : EffectsState) : Type 0 where
   pub touched : (c : ℕ) → has effects.touched c ≡ false
   pub mode : effects.mode ≡ Running
@@ -34,7 +34,7 @@ pub record Collects (mode : Mode) (old new : EffectsState) : Type 0 where
   pub slots : KeepsSlots old.touched new.touched
   pub mode_is : new.mode ≡ later old.mode mode
 
--- what came of an event is kept; where it was refused, nothing came of it
+-- the effects of an event are kept; a refused event has none
 abbrev pub Kept : Result Receipt ApplyError → EffectsState → EffectsState → Type 0
 Kept (Ok receipt) old new = Collects receipt.mode old new
 Kept (Err refused) old new = new ≡ old
@@ -49,8 +49,8 @@ pub record Keeps (k : Settings) (taped : Bool) (s : Step) (desk : ℕ) (answer :
 abbrev pub Ticks : EffectsState → EffectsState → Type 0
 Ticks old new = (mode : Mode) × Collects mode old new
 
--- What came of each event that the desk handed in meanwhile was added to the effects, one event after another, and
--- perhaps what came of ticks; and nothing was taken out of them.
+-- The effects of each event that the desk handed in meanwhile were added, one event after another, and perhaps those of
+-- ticks; and nothing was taken out of them.
 pub data Gathers (k : Settings) (taped : Bool) (desk : ℕ) (seen : List Entry) (old : EffectsState) : List Entry → EffectsState → Type 0 where
   nothing : Gathers k taped desk seen old seen old
   event : (s : Step) (receipt : Receipt) (mid after : List Entry) (between new : EffectsState) → Gathers k taped desk seen old mid between
@@ -58,14 +58,14 @@ pub data Gathers (k : Settings) (taped : Bool) (desk : ℕ) (seen : List Entry) 
   tick : (mid : List Entry) (between new : EffectsState) → Gathers k taped desk seen old mid between → Ticks between new → Gathers k taped desk seen old mid new
   refusal : (mid after : List Entry) (between : EffectsState) → Gathers k taped desk seen old mid between → HandedIn desk [] mid after → Gathers k taped desk seen old after between
 
--- What is due to a slot of the book is taken out, and nothing else.
+-- The delivery due to a slot of the book is taken out, and nothing else.
 pub record Takes (k : Settings) (due : Due) (old new : EffectsState) : Type 0 where
   pub within : due.slot < k.slots
   pub was : has old.touched due.slot ≡ true
   pub slots : (c : ℕ) → has new.touched c ≡ (not (c == due.slot) && has old.touched c)
   pub mode : new.mode ≡ old.mode
 
--- it is that of the first touched slot from one on; none where there is no such slot
+-- it is that of the first touched slot from one on; none if there is no such slot
 abbrev pub TakesDue : Settings → ℕ → Option Due → EffectsState → EffectsState → Type 0
 TakesDue k from None old new = (new ≡ old) × ((c : ℕ) → from ≤ c → has old.touched c ≡ false)
 TakesDue k from (Some due) old new = (from ≤ due.slot) × ((c : ℕ) → from ≤ c → c < due.slot → has old.touched c ≡ false) × Takes k due old new

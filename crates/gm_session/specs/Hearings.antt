@@ -1,4 +1,4 @@
--- What was read from a slot's connections, and what was handed in of that.
+-- The bytes read from a slot's connections, and the units of them that were handed in.
 use Rattle.std.specs.Prelude.{◌≡◌, ℕ, ℤ, Bool, true, List, [], ◌∷◌, ◌++◌, Option, Some, None, IfSome}
 use Rattle.gm_feeder.specs.declared.units.Limits.{Limits}
 use Rattle.gm_feeder.specs.Units.{Item, Waits}
@@ -14,8 +14,8 @@ use Rattle.gm_session.specs.Sessions.{Adds}
 abbrev pub blank : Hearings
 blank = record { past = []; since = [] }
 
--- a connection more is gone, which went through this socket, from which this was read, of which all whole units were
--- handed in or not
+-- a connection more is gone, which went through this socket, from which this was read, with whether all whole units
+-- of it were handed in
 abbrev pub closed : List Entry → Option ℤ → List ℕ → Bool → Hearings → Hearings
 closed seen socket read is_whole hearings = record { past = record { since = hearings.since; until = seen; socket = socket; read = read; is_whole = is_whole } ∷ hearings.past; since = seen }
 
@@ -24,8 +24,8 @@ abbrev pub IsReadThrough : Option ℤ → List ℕ → Type 0
 IsReadThrough None read = read ≡ []
 IsReadThrough (Some socket) read = Unit {0}
 
--- What was handed in at the desk of slot n of one connection: the first units of what was read from it, in order, then
--- the fault behind them or none, and its closing. If it is said that these are all, no whole unit is left, and there
+-- The events handed in at the desk of slot n of one connection: the first units of the bytes read, in order, then
+-- the fault after them or none, and its closing. If it is said that these are all, no whole unit is left, and there
 -- was no fault.
 pub record IsHeard (k : Settings) (n : ℕ) (limits : Limits) (heard : Heard) : Type 0 where
   pub own : IsReadThrough heard.socket heard.read

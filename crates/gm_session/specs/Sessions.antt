@@ -1,4 +1,4 @@
--- What a session reads, and what it hands in of that.
+-- The bytes that a session reads, and the units of them that it hands in.
 use Rattle.std.specs.Prelude.{◌≡◌, ◌⊎◌, ℕ, zero, suc, Bool, true, false, List, [], ◌∷◌, ◌++◌, reverse, Option, Some, None, IfSome, Result, Ok, Err}
 use Rattle.std.specs.Io.KnownBytes.{Consumes, Appends, Keeps}
 use Rattle.std.specs.declared.io.ErrorKind.{ErrorKind}
@@ -22,8 +22,8 @@ use Rattle.gm_session.specs.declared.session.SessionEnd.TheVariants as ends
 use Rattle.gm_session.specs.declared.applier.Taken.{Taken}
 use Rattle.gm_session.specs.declared.applier.Taken.TheVariants.{Unit as AUnit, Nothing}
 
--- what comes of a read that failed so: it gave nothing if it was broken off or would have waited; otherwise the session
--- is over
+-- the outcome of a read that failed so: it gave nothing if it was broken off or would have waited; otherwise the
+-- session is over
 abbrev pub failed_read : ErrorKind → Result ℕ SessionEnd
 failed_read Interrupted = Ok 0
 failed_read WouldBlock = Ok 0
@@ -38,7 +38,7 @@ IsPiece input rest heard after old new (Err end) = Consumes input rest [] × Kee
 abbrev pub Adds : ℕ → List Step → List Entry → List Entry → Type 0
 Adds desk steps seen after = HandedIn desk (reverse steps) seen after
 
--- The events that a desk handed in meanwhile are the first units of these bytes, in order, and then the fault behind
+-- The events that a desk handed in meanwhile are the first units of these bytes, in order, and then the fault after
 -- them, or none.
 pub record HandsIn (k : Settings) (desk c : ℕ) (limits : Limits) (bytes rest : List ℕ) (fault : Option UnitFault) (seen after : List Entry) : Type 0 where
   pub items : List Item
@@ -56,7 +56,7 @@ IsWhole ends.Turns = Unit {0}
 IsWhole ends.Stopped = ⊥
 IsWhole ends.NoThread = ⊥
 
--- whether all whole units were handed in where a session ended so, and nothing more can be read
+-- whether all whole units were handed in if a session ended so, and nothing more can be read
 abbrev pub ends_whole : SessionEnd → Bool
 ends_whole ends.Ended = true
 ends_whole ends.ReadFault = true
@@ -93,8 +93,8 @@ IsShutBy k taped desk c limits rest None after = (s : Step) × StandsNext k c li
 
 -- ---- a session
 
--- What a session read of its input, and what it handed in of that: all units and no fault, where the input is used up,
--- the reader failed or it read as many pieces as it may; then there is no unit at the rest, and no fault. If it
+-- The bytes that a session read, and the units of them that it handed in: all units and no fault, if the input is used
+-- up, the reader failed or it read as many pieces as it may; then there is no unit at the rest, and no fault. If it
 -- found its slot shut, why.
 pub record Reads (k : Settings) (taped : Bool) (desk c : ℕ) (limits : Limits) (old new : Option (List ℕ)) (end : SessionEnd) (seen after : List Entry) : Type 0 where
   pub read : List ℕ
@@ -120,7 +120,7 @@ pub record Stops (k : Settings) (taped : Bool) (desk c : ℕ) (old : Stream) (en
   pub broken : IsBroken end
   pub shut : end ≡ ends.Shut → IsShutBy k taped desk c old.limits old.pending fault after
 
--- what becomes of the next unit: it was applied; or there is none, and more bytes are waited for; or the session is
+-- the outcome for the next unit: it was applied; or there is none, and more bytes are waited for; or the session is
 -- over
 abbrev pub TakesNext : Settings → Bool → ℕ → ℕ → Stream → Result Taken SessionEnd → List Entry → List Entry → Stream → Type 0
 TakesNext k taped desk c old (Ok (AUnit is_line)) seen after new = (item : Item) × GivesUnit old item new × Adds desk (step_of_unit k c item ∷ []) seen after
@@ -141,7 +141,7 @@ pub record Breaks (k : Settings) (taped : Bool) (desk c : ℕ) (limits : Limits)
   pub broken : IsBroken end
   pub shut : end ≡ ends.Shut → IsShutBy k taped desk c limits rest fault after
 
--- what becomes of these bytes in a turn
+-- the outcome for these bytes in a turn
 abbrev pub Takes : Settings → Bool → ℕ → ℕ → Limits → List ℕ → Result (Unit {0}) SessionEnd → Bool → List Entry → List Entry → Stream → Type 0
 Takes k taped desk c limits bytes (Ok done) units seen after new = GoesOn k desk c limits bytes units seen after new
 Takes k taped desk c limits bytes (Err end) units seen after new = Breaks k taped desk c limits bytes end seen after
@@ -151,7 +151,7 @@ Unloads k taped desk c old outcome units seen after new = Takes k taped desk c o
 
 -- ---- a step: a piece is read, unless whole units may be left, and then there is a turn
 
--- these bytes came behind those that were left, and were heard
+-- these bytes came after those that were left, and were heard
 pub record Fed (input left heard after_heard : Option (List ℕ)) (old new : Stream) : Type 0 where
   pub piece : List ℕ
   pub consumes : Consumes input left piece
@@ -163,8 +163,8 @@ abbrev pub Fills : Bool → Option (List ℕ) → Option (List ℕ) → Option (
 Fills units input left heard after_heard old new (Ok done) = Fed input left heard after_heard old new
 Fills units input left heard after_heard old new (Err end) = (units ≡ false) × Consumes input left [] × Keeps heard after_heard × (end ≡ ends.Shut → ⊥)
 
--- A session is over in which these bytes were left, perhaps with whole units: a piece was read, and it broke; or
--- nothing was read where no whole unit was left, and nothing was handed in.
+-- A session is over in which these bytes were left, perhaps with whole units: a piece was read, and it broke; or no
+-- whole unit was left, nothing was read, and nothing was handed in.
 pub data Ends (k : Settings) (taped : Bool) (desk c : ℕ) (old : Stream) (units : Bool) (input left : Option (List ℕ)) (heard after_heard : Option (List ℕ)) (end : SessionEnd)
     (seen after : List Entry) : Type 0 where
   broke : (piece : List ℕ) → Consumes input left piece → Appends heard after_heard piece → Breaks k taped desk c old.limits (old.pending ++ piece) end seen after
@@ -183,7 +183,7 @@ abbrev pub Steps : Settings → Bool → ℕ → ℕ → Stream → Bool → Opt
 Steps k taped desk c old units input left heard after_heard (Ok done) later seen after new = Reaches k desk c old input left heard after_heard later seen after new
 Steps k taped desk c old units input left heard after_heard (Err end) later seen after new = Ends k taped desk c old units input left heard after_heard end seen after
 
--- ---- why: what the source answered, where that is known
+-- ---- why: what the source answered, if that is known
 
 -- whether the session is over once its source answered so: it is at its end, or it failed; a read that was broken off
 -- or would have waited is neither
@@ -207,7 +207,7 @@ AsksForPiece old new (Err ends.ReadFault) = AsksOnce old new (Some ends.ReadFaul
 AsksForPiece old new (Err ends.Memory) = Unasked old new
 AsksForPiece old new (Err end) = ⊥
 
--- no piece is asked for where whole units may be left
+-- no piece is asked for if whole units may be left
 abbrev pub AsksToFill : Bool → Option (List Answer) → Option (List Answer) → Result (Unit {0}) SessionEnd → Type 0
 AsksToFill true old new (Ok done) = Unasked old new
 AsksToFill true old new (Err end) = ⊥

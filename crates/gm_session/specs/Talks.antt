@@ -54,14 +54,14 @@ pub record TalkState : Type 0 where
 
 -- ---- what was handed in
 
--- What was handed in since the slot was last closed are the first units of what was read from the connection, in order:
--- all that are whole, unless some may be left.
+-- The events handed in since the slot was last closed are the first units of the bytes read from the connection, in
+-- order: all that are whole, unless some may be left.
 pub record GoesOnSo (k : Settings) (n : ℕ) (limits : Limits) (since seen : List Entry) (t : TalkingState) : Type 0 where
   pub limited : t.stream.limits ≡ limits
   pub hands : HandsIn k n n limits t.heard t.stream.pending None since seen
   pub waits : t.has_units ≡ false → Waits limits t.stream.pending
 
--- Once the session is over: the first units, in order, and then the fault behind them or none. These are all, and there
+-- Once the session is over: the first units, in order, and then the fault after them or none. These are all, and there
 -- is no fault, if that is said.
 pub record IsOverSo (k : Settings) (n : ℕ) (limits : Limits) (since seen : List Entry) (heard : List ℕ) (is_whole : Bool) : Type 0 where
   pub rest : List ℕ
@@ -173,7 +173,7 @@ abbrev pub is_over : Option TalkingState → Bool
 is_over None = false
 is_over (Some t) = is_over_by t.reading
 
--- its session is over: where all whole units were handed in, nothing is read any more, and otherwise what still comes
+-- its session is over: if all whole units were handed in, nothing is read any more, and otherwise what still comes
 -- is dropped
 abbrev pub IsOverAs : Bool → Option TalkingState → Type 0
 IsOverAs true talking = has_ended talking ≡ true
@@ -196,8 +196,8 @@ abbrev pub with_reading : (Reading → Reading) → Option TalkingState → Opti
 with_reading change None = None
 with_reading change (Some t) = Some record t { reading = change t.reading }
 
--- What is left to be read: nothing where nothing is read any more; otherwise perhaps something, where whole units may
--- be left, or else what the last call left.
+-- The rest to be read: nothing if nothing is read any more; otherwise perhaps something, if whole units may be left, or
+-- else what the last call left.
 abbrev pub left_of : Bool → Bool → Option Answer → Left
 left_of false units last = lefts.Nothing
 left_of true true last = lefts.Perhaps
@@ -212,7 +212,7 @@ abbrev pub has_timed_out_in : Option TalkingState → Bool
 has_timed_out_in None = false
 has_timed_out_in (Some t) = has_timed_out t.last
 
--- the last answer is taken, where more may be read
+-- the last answer is taken, if more may be read
 abbrev pub last_taken : Bool → TalkingState → TalkingState
 last_taken false t = t
 last_taken true t = record t { last = None }
@@ -223,7 +223,7 @@ without_last (Some t) = Some (last_taken (is_reading_on t.reading) t)
 
 -- ---- a step
 
--- where all whole units were handed in, nothing more can be read
+-- if all whole units were handed in, nothing more can be read
 abbrev pub over_by : SessionEnd → Reading
 over_by end = if ends_whole end then Ended end else Drops end
 
@@ -232,8 +232,8 @@ abbrev pub reading_after : Result (Unit {0}) SessionEnd → Reading
 reading_after (Ok done) = Goes
 reading_after (Err end) = over_by end
 
--- Once the session is over, what was handed in since the slot was last closed is what was read since, as of a session
--- that one thread reads to its end.
+-- Once the session is over, the events handed in since the slot was last closed are those of a session that one thread
+-- reads to its end.
 abbrev pub Turns : Settings → Bool → Result (Unit {0}) SessionEnd → TalkState → List Entry → TalkingState → Type 0
 Turns k taped (Ok done) old seen now = Unit {0}
 Turns k taped (Err end) old seen now = Reads k taped old.number old.number old.limits (Some now.heard) (Some []) end old.hearings.since seen
@@ -254,7 +254,7 @@ abbrev pub SteppedIf : Reading → Settings → Bool → Result (Unit {0}) Sessi
 SteppedIf Goes k taped result old new t = Stepped k taped result old new t
 SteppedIf over k taped result old new t = (new ≡ old) × (result ≡ Err ends.Shut)
 
--- nothing is read where there is no session any more
+-- nothing is read if there is no session any more
 abbrev pub StepsOn : Option TalkingState → Settings → Bool → Result (Unit {0}) SessionEnd → TalkState → TalkState → Type 0
 StepsOn None k taped result old new = (new ≡ old) × (result ≡ Err ends.Shut)
 StepsOn (Some t) k taped result old new = SteppedIf t.reading k taped result old new t
@@ -277,14 +277,14 @@ whole_by Goes = false
 whole_by (Drops end) = false
 whole_by (Ended end) = ends_whole end
 
--- the account with the connection that is there, once its slot was closed at this; with one that nobody served, where
+-- the account with the connection that is there, once its slot was closed at this; with one that nobody served, if
 -- there is none
 abbrev pub hearings_with : List Entry → Option TalkingState → Hearings → Hearings
 hearings_with seen None hearings = closed seen None [] true hearings
 hearings_with seen (Some t) hearings = closed seen (Some t.socket) t.heard (whole_by t.reading) hearings
 
 -- The connection is gone, and entered with all that was read from it, and whether all whole units of that were handed
--- in; where the closing was refused nothing changed but what the desk has seen.
+-- in; if the closing was refused nothing changed but what the desk has seen.
 abbrev pub Closes : Settings → Bool → Result Receipt ApplyError → TalkState → Option SideState → TalkState → Type 0
 Closes k taped (Ok receipt) old side new =
     new ≡ record old { closings = counted (old.closings + 1); seen = new.seen; hearings = hearings_with new.seen old.talking old.hearings; side = side; talking = None }

@@ -1,4 +1,4 @@
-//! A session of which no other thread is notified.
+//! A session that notifies no other thread.
 
 ghost use Rattle.std.specs.Prelude.{◌≡◌};
 ghost use Rattle.std.specs.Io.KnownBytes.{IsAtEnd};
@@ -15,7 +15,7 @@ use std::io::Read;
 use std::sync::Wait;
 use std::time::Clock;
 
-/// Reads a connection's stream to its end, cuts it into units and applies each at the slot, in order; where no
+/// Reads a connection's stream to its end, cuts it into units and applies each at the slot, in order; if no
 /// continuation of what came can be read, it applies that fault and ends. Each unit passes the gate first. The desk is
 /// the slot's. With a tape the desk's share has these events and no others.
 pub fn read_session<'s, K: BookName, R: Wait + Clock, I: Read, G: Gate>(

@@ -30,14 +30,14 @@ use std::time::Clock;
 /// The most pieces that a session reads.
 const MOST_PIECES: u64 = 1_099_511_627_776;
 
-/// What is around a session: the book at which its units are handed in, what these pass before, and its server.
+/// The surroundings of a session: the book at which its units are handed in, their gate, and its server.
 #[derive(Drop)]
 pub struct Around<'s, K: BookName, R, G> {
     pub alloc: Global,
     pub rt: &'s R,
     pub shared: &'s Shared<K>,
     pub gate: &'s G,
-    /// None of a session that is read by itself.
+    /// The server; none for a session that is read by itself.
     pub host: Option<&'s Host<K>>,
 }
 
@@ -48,7 +48,7 @@ fn share(alloc: Global, packet: OwnedPacket) -> Result<SharedBytes, AllocError>
     SharedBytes::new(alloc, packet.bytes)?.suffix(packet.data_at)
 }
 
-/// What was taken of a connection's bytes.
+/// The part of a connection's bytes that was taken.
 #[derive(Clone, Copy)]
 pub(crate) enum Taken {
     /// A unit, which was applied.
@@ -70,8 +70,7 @@ fn may_be_long(event: &Event<'_>) -> bool {
     }
 }
 
-/// What cuts a connection's bytes into units, and applies each at its desk: past the gate. What comes of them is added
-/// to effects.
+/// Cuts a connection's bytes into units, and applies each at its desk, past the gate. Their effects are collected.
 #[derive(Drop)]
 pub(crate) struct Applier<'s, K: BookName, R, G> {
     pub(crate) around: &'s Around<'s, K, R, G>,
@@ -82,7 +81,7 @@ pub(crate) struct Applier<'s, K: BookName, R, G> {
 
 impl<'s, K: BookName, R: Wait + Clock, G: Gate> Applier<'s, K, R, G> {
     /// Before a grab it hands in the present second: a job's time limit counts from the last second that was handed in.
-    /// A packet of no request's type is said to operators.
+    /// A packet whose type isn't a request's is reported to operators.
     fn prepare(&self, read: &ReadEvent<'_>, effects: &mut Effects<K>)
         ensures { Ticks effects.old effects.new }
     {
@@ -161,7 +160,7 @@ impl<'s, K: BookName, R: Wait + Clock, G: Gate> Applier<'s, K, R, G> {
         if self.around.shared.as_gearmand() {
             return self.apply_meant(desk, event, effects);
         }
-        // What was read is large, and so it isn't moved.
+        // The event is large, so it isn't moved.
         self.apply(desk, &ReadEvent::new(event), effects)
     }
 

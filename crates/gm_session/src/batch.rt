@@ -8,8 +8,8 @@ use gm_time::{TURN_TIME_US, has_passed};
 use std::sync::{MutexGuard, Wait};
 use std::time::{Clock, Duration, Instant};
 
-/// The most bytes of a turn that doesn't wait behind the long turns that wait: several requests. It waits for the batch
-/// that goes on.
+/// The most bytes of a turn that doesn't queue with the long turns: several requests. It waits for the batch that goes
+/// on.
 const MIDDLE_PIECE: usize = 2_048;
 
 /// The most units of a turn: then other connections have theirs.
@@ -18,7 +18,7 @@ const MOST_UNITS: u32 = 64;
 /// After how many units a turn reads the clock. It does so too after each unit that may be the work of many.
 const UNITS_PER_CLOCK_READ: u32 = 8;
 
-/// The units of a turn, after which others are notified of what came of them.
+/// The units of a turn, after which other threads are notified of their effects.
 #[derive(Drop)]
 pub(crate) struct Batch<'s> {
     /// How many units don't wait for other sessions' batches.

@@ -1,4 +1,4 @@
-//! What came of events, for the threads that are notified.
+//! The effects of events on other connections: which slots to touch, and the server's mode.
 
 ghost use Rattle.std.specs.Prelude.{◌≡◌};
 ghost use Rattle.std.specs.Result.{IsErrOf};
@@ -16,8 +16,8 @@ use gm_shared::{BookName, Desk, Receipt, Shared};
 use std::marker::{Model, PhantomData};
 use std::sync::Wait;
 
-/// What came of some events at the book that `K` names. It can't be dropped: what is due to each touched slot is taken
-/// out of it, and then it is ended. Contracts see the touched slots, which are the book's, and the mode.
+/// The effects of events at the book that `K` names. They can't be dropped: the delivery due to each touched slot is
+/// taken out, and then they are ended. Contracts see the touched slots, which are the book's, and the mode.
 pub struct Effects<K: BookName> {
     // The slots for which there may be something to send.
     touched: SlotSet,
@@ -38,7 +38,7 @@ impl<K: BookName> Model for Effects<K> {
 }
 
 impl<K: BookName> Effects<K> {
-    /// Nothing came of anything.
+    /// No effects: no slot is touched, and the server goes on.
     pub fn new() -> Effects<K>
         ensures { IsNothing result }
     {
@@ -58,7 +58,7 @@ impl<K: BookName> Effects<K> {
         std::mem::replace(&mut self.mode, Mode::Running)
     }
 
-    /// Takes what is due to the first slot from `from` on, if anything is due to one.
+    /// Takes the delivery due to the first slot from `from` on, if there is one.
     pub fn take_next(&mut self, from: u32) -> Option<Due>
         ensures { TakesDue K.settings from result self.old self.new }
     {
@@ -68,7 +68,7 @@ impl<K: BookName> Effects<K> {
         Some(Due::new(slot))
     }
 
-    /// Takes what is due to this slot, if anything is.
+    /// Takes the delivery due to this slot, if there is one.
     pub fn take(&mut self, slot: u32) -> Option<Due>
         ensures { TakesAt K.settings slot result self.old self.new }
     {
@@ -80,7 +80,7 @@ impl<K: BookName> Effects<K> {
         Some(Due::new(slot))
     }
 
-    /// Discharges it, where nothing is due to any slot any more.
+    /// Discharges it, if nothing is due to any slot any more.
     pub fn discharge(self)
         requires { IsNothing self }
     {
@@ -91,7 +91,7 @@ impl<K: BookName> Effects<K> {
         } = self;
     }
 
-    /// Ends it, of a session that is read by itself: no thread is notified.
+    /// Ends the effects of a session that is read by itself: no thread is notified.
     pub(crate) fn abandon(self) {
         let Effects {
             touched: _,
@@ -115,7 +115,7 @@ fn later(mode: Mode, other: Mode) -> Mode
     }
 }
 
-/// Hands in an event at a desk, and adds what came of it.
+/// Hands in an event at a desk, and adds its effects.
 #[inline(always)]
 pub(crate) fn hand_in<K: BookName>(
     rt: &impl Wait,

@@ -1,18 +1,18 @@
-//! What was read from a slot's connections, which only proofs know.
+//! The account of the bytes read from a slot's connections. Only proofs know it.
 
 use gm_ghost::Worth;
 use gm_shared::Entry;
 use std::collections::LinkedList;
 use std::marker::Brand;
 
-/// What was read from a connection that is gone. Only proofs have such a value: none is made.
+/// The account of a connection that is gone: the bytes read from it. Only proofs have such a value: none is made.
 #[derive(Drop)]
 pub struct Heard {
-    /// What the slot's desk had seen of the history when the connection before this one was closed.
+    /// The history that the slot's desk had seen when the connection before this one was closed.
     pub since: LinkedList<Entry>,
-    /// What it had seen when this one was closed.
+    /// The history that it had seen when this one was closed.
     pub until: LinkedList<Entry>,
-    /// The socket's number, through which it was read; none of a connection that nobody served.
+    /// The number of the socket through which it was read; none if no thread served the connection.
     pub socket: Option<i32>,
     /// All that was read.
     pub read: LinkedList<u8>,

@@ -1,4 +1,4 @@
-//! What the sessions of a server share.
+//! The part of a server that its sessions share.
 
 ghost use Rattle.std.specs.Prelude.{◌≡◌};
 ghost use Rattle.gm_session.specs.Effects.{Ticks};
@@ -13,7 +13,7 @@ use std::sync::atomic::{AtomicU64, Ordering};
 use std::sync::{Arc, Mutex, Wait};
 use std::time::{Clock, Instant};
 
-/// What the sessions of a server share: the control desk and the time, the locks of long turns, and the operators.
+/// Shared by the sessions of a server: the control desk and the time, the locks of long turns, and the operators.
 #[derive(Drop)]
 pub struct Host<K: BookName> {
     /// Where connections are opened, and the seconds since the server began are handed in.
@@ -26,14 +26,14 @@ pub struct Host<K: BookName> {
     /// sleep at the book's lock at each unit.
     pub(crate) turn: Mutex<()>,
     /// Held by one long turn at a time, from before it waits for `turn` on. So at most one thread with a long turn
-    /// waits for `turn`, beside those with shorter ones.
+    /// waits for `turn`, in addition to those with shorter ones.
     pub(crate) long_turn: Mutex<()>,
-    /// What is said while the server runs.
+    /// Writes the messages for operators while the server runs.
     pub speaker: Arc<Speaker, Global>,
 }
 
 impl<K: BookName> Host<K> {
-    /// Of a server that begins, with its control desk.
+    /// The host of a server that begins, with its control desk.
     pub fn new(rt: &impl Clock, desk: OwnDesk<K>, speaker: Arc<Speaker, Global>) -> Host<K> {
         Host {
             desk: Mutex::new(desk),
@@ -68,8 +68,8 @@ impl<K: BookName> Host<K> {
         Some(elapsed.as_secs())
     }
 
-    /// Hands in the present second, if it is later than the last that was, and adds what came of it. If the clock
-    /// can't be read, there is no tick.
+    /// Hands in the present second, if it is later than the last that was, and adds its effects. If the clock can't be
+    /// read, there is no tick.
     pub fn update<R: Wait + Clock>(&self, rt: &R, shared: &Shared<K>, effects: &mut Effects<K>)
         ensures { Ticks effects.old effects.new }
     {

@@ -1,6 +1,6 @@
-//! What one connection says: its bytes are cut into units, and each is handed in, past a gate, at the desk of its slot.
-//! A `Talk` is a slot's desk with the session of its connection, which threads go on with by turns. What came of its
-//! units is added to `Effects`: for which slots there may be something to send then.
+//! Sessions: the bytes of one connection are cut into units, and each is handed in, past a gate, at the desk of its
+//! slot. A `Talk` is a slot's desk with the session of its connection, which threads go on with by turns. The effects
+//! of its units are added to `Effects`: for which slots there may be something to send then.
 #![tactic(auto)]
 
 mod alone;

@@ -1,4 +1,4 @@
-//! A desk at which no other slot's connection speaks.
+//! A desk that takes no events of other slots' connections.
 
 ghost use Rattle.std.specs.Prelude.{◌≡◌, true, []};
 ghost use Rattle.std.specs.Result.{IsErrOf};
@@ -14,7 +14,7 @@ use gm_notes::{ApplyError, Event};
 use gm_shared::{BookName, Desk, Receipt, Shared};
 use std::sync::Wait;
 
-/// A desk. What its own slot's connection says is handed in there, and what no slot says: openings and ticks.
+/// A desk for the events of its own slot's connection and for those of no slot: openings and ticks.
 #[derive(Drop)]
 pub struct OwnDesk<K: BookName> {
     pub(crate) desk: Desk<K>,
@@ -38,8 +38,8 @@ impl<K: BookName> OwnDesk<K> {
         self.desk
     }
 
-    /// Hands in an event that is of this desk's slot, or of none: an opening, a tick. What came of it is added to the
-    /// effects.
+    /// Hands in an event that is of this desk's slot, or of none: an opening, a tick. Its effects are added to the
+    /// given ones.
     pub fn apply(
         &mut self,
         rt: &impl Wait,
@@ -59,8 +59,8 @@ impl<K: BookName> OwnDesk<K> {
         hand_in(rt, shared, &mut self.desk, &ReadEvent::new(event), effects)
     }
 
-    /// Opens a slot for a connection from this address, which only a refusal leaves without one. What came of it is
-    /// added to the effects.
+    /// Opens a slot for a connection from this address. Only a refusal leaves the connection without one. Its effects
+    /// are added to the given ones.
     pub fn open(
         &mut self,
         rt: &impl Wait,

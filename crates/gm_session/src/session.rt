@@ -1,4 +1,4 @@
-//! A connection's way in.
+//! A connection's session: its bytes on their way in.
 
 ghost use Rattle.std.specs.Prelude.{◌≡◌, ◌^◌, ◌-◌, ◌<◌, ◌≤◌, true, false, [], None, IfErr};
 ghost use Rattle.std.specs.Io.KnownBytes.{IsAtEnd};
@@ -23,7 +23,7 @@ pub enum SessionEnd {
     Ended,
     /// The reader failed.
     ReadFault,
-    /// A fault stood in the stream and was applied, or the slot was found shut or not open.
+    /// A fault in the stream was applied, or the slot was found shut or not open.
     Shut,
     /// There was no memory for a piece, or for a unit.
     Memory,
@@ -48,14 +48,14 @@ impl SessionEnd {
     }
 }
 
-/// What a session keeps of its connection's bytes while it waits for more, or for its next turn.
+/// The state of a session while it waits for more bytes, or for its next turn.
 #[derive(Drop)]
 pub struct Session {
     pub(crate) feeder: Feeder,
     /// The next unit's index.
     pub(crate) index: u64,
-    /// Whether the last turn had many units, as the next one then has: where that is long, it waits from its first unit
-    /// on.
+    /// Whether the last turn had many units, as the next one then has: if that turn is long, it waits from its first
+    /// unit on.
     pub(crate) is_pipelining: bool,
     /// Whether the last turn may have left whole units.
     pub(crate) has_units: bool,
@@ -109,7 +109,7 @@ impl Session {
     }
 }
 
-/// What comes of a read that failed: it gave nothing if it was broken off or would have waited; otherwise the session
+/// The outcome of a read that failed: it gave nothing if it was broken off or would have waited; otherwise the session
 /// is over.
 fn failed_read(error: &Error) -> Result<usize, SessionEnd>
     ensures { result ≡ failed_read (error_kind error.now) }

@@ -36,7 +36,7 @@ use std::time::Clock;
 pub enum Reading {
     /// Its session goes on.
     Goes,
-    /// Its session is over, for this reason. What still comes is read and dropped.
+    /// Its session is over, for this reason. Bytes that still come are read and dropped.
     Drops { end: SessionEnd },
     /// Its session is over, and nothing is read any more.
     Ended { end: SessionEnd },
@@ -52,15 +52,16 @@ struct Talking {
     reading: Reading,
 }
 
-/// A slot's desk, and the session of its connection, if there is one. Whichever threads go on with the session: what
-/// was handed in since the slot was last closed are the first units of what was read since, and so it was with each
-/// connection before. Contracts see how often the slot was closed, what the desk has seen of the history, what is left
-/// of the session's bytes, all that was read from the connection, and the account of those that are gone.
+/// A slot's desk, and the session of its connection, if there is one. Whichever threads go on with the session, the
+/// units handed in since the slot was last closed are the first units of the bytes read since, and it was so with each
+/// connection before. Contracts see how often the slot was closed, the history that the desk has seen, the rest of the
+/// session's bytes, all that was read from the connection, and the account of those that are gone.
 #[derive(Drop)]
 pub struct Talk<K: BookName> {
     desk: OwnDesk<K>,
     limits: Limits,
-    /// What knows the sockets of the slot's connections. It is lent while a connection is about to come.
+    /// The reading side of the slot, which knows the sockets of its connections. It is lent while a connection is about
+    /// to come.
     side: Option<PairSide<K>>,
     talking: Option<Talking>,
     /// How often the slot was closed; at the greatest `u64` it stays there.
@@ -95,8 +96,8 @@ impl<K: BookName> Model for Talk<K> {
     }) };
 }
 
-/// A slot's desk, the limits of its connections' units, what knows their sockets, unless that is lent, and the account
-/// of what was read from them.
+/// A slot's desk, the limits of its connections' units, the side that knows their sockets, unless it is lent, and the
+/// account of the bytes read from them.
 #[derive(Drop)]
 pub struct TalkParts<K: BookName> {
     pub desk: OwnDesk<K>,
@@ -105,7 +106,7 @@ pub struct TalkParts<K: BookName> {
     pub ledger: Ghost<Hearings>,
 }
 
-/// How far a connection's reading is once its session is over: where all whole units were handed in, nothing more can
+/// How far a connection's reading is once its session is over: if all whole units were handed in, nothing more can
 /// be read.
 fn over_by(end: SessionEnd) -> Reading
     ensures { result ≡ over_by end }
@@ -221,8 +222,8 @@ impl<K: BookName> Talk<K> {
         self.desk.number()
     }
 
-    /// Lends what knows the sockets of the slot's connections, for one that is about to come: `begin` or `refuse` takes
-    /// it back. There is none while a connection is there, or where it is lent already.
+    /// Lends the reading side of the slot, for a connection that is about to come: `begin` or `refuse` takes it back.
+    /// There is none while a connection is there, or if it is lent already.
     pub fn lend_side(&mut self) -> Option<PairSide<K>>
         ensures { Lends result self.old self.new }
     {
@@ -232,7 +233,7 @@ impl<K: BookName> Talk<K> {
         }
     }
 
-    /// Takes a connection, of which nothing was read yet, and whose socket was handed to the side that was lent.
+    /// Takes a connection from which nothing was read yet, and whose socket was handed to the side that was lent.
     pub fn begin(
         &mut self,
         alloc: Global,
@@ -306,7 +307,7 @@ impl<K: BookName> Talk<K> {
         }
     }
 
-    /// Takes what is left to be read, after a step that didn't wait: also where it didn't read, there may be more,
+    /// Takes what is left to be read, after a step that didn't wait: even if it didn't read, there may be more,
     /// since what came meanwhile isn't reported again.
     pub fn take_left(&mut self) -> Left
         ensures left { result ≡ left_in self.old.talking }
@@ -339,8 +340,8 @@ impl<K: BookName> Talk<K> {
         }
     }
 
-    /// Goes on with the session: reads a piece, unless whole units may be left, and takes a turn. What came of its
-    /// units is added to the effects. If the session is over, it says why: `Shut` where there is none that goes on.
+    /// Goes on with the session: reads a piece, unless whole units may be left, and takes a turn. The effects of its
+    /// units are added. If the session is over, it says why: `Shut` if there is none that goes on.
     pub fn step<R: Wait + Clock, G: Gate>(
         &mut self,
         around: &Around<'_, K, R, G>,
@@ -362,7 +363,8 @@ impl<K: BookName> Talk<K> {
         }
     }
 
-    /// Reads once after the session is over, into this room, and drops the bytes. It says how many there were.
+    /// Reads once from a connection whose session is over, into this room, and drops the bytes. It answers how many
+    /// there were, 0 at the end of the stream. An error is the read's.
     pub fn discard(&mut self, by: &Patience, room: &mut [u8]) -> io::Result<usize>
         requires { is_dropping self.old.talking ≡ true }
         ensures { Discards self.old.talking (answer_of result (length room.new)) self.old self.new }
@@ -422,7 +424,8 @@ impl<K: BookName> Talk<K> {
         answer
     }
 
-    /// What the slot was given, and the account of what was read from its connections.
+    /// The desk and the side that the slot was given, its limits, and the account of the bytes read from its
+    /// connections.
     pub fn into_parts(self) -> TalkParts<K>
         ensures desk { (result.desk.desk.number ≡ self.number) × (result.desk.desk.witness.seen ≡ self.seen) }
         ensures limits { result.limits ≡ self.limits }

@@ -1,4 +1,4 @@
--- What a book agrees with, and what one holding of it does.
+-- The steps that a book agrees with, and the effect of one holding of it.
 use Rattle.std.specs.Prelude.{◌≡◌, ℕ, ◌+◌, ◌<◌, Bool, true, false, ◌==◌, ◌||◌, if◌then◌else◌, List, [], ◌∷◌, Option, Some, None, Result, Ok, Err}
 use Rattle.gm_notes.specs.declared.event.ApplyError.{ApplyError}
 use Rattle.gm_notes.specs.declared.event.ApplyError.TheVariants.{Memory, NotOpen}
@@ -39,7 +39,7 @@ withdrawals c [] = 0
 withdrawals c (Withdrew d ∷ older) = (if c == d then 1 else 0) + withdrawals c older
 withdrawals c (s ∷ older) = withdrawals c older
 
--- The book's lines say what the steps left: for each slot the phase, which is Awake where it isn't open, and how many
+-- The book's lines say what the steps left: for each slot the phase, which is Awake if it isn't open, and how many
 -- of its NOOPs were found taken, and how many were withdrawn.
 pub record WordsAgree (lines : List WordLine) (k : Settings) (steps : List Step) : Type 0 where
   pub phases : (c : ℕ) → (line_at c lines).phase ≡ worded (phase c (run k steps).notes)
@@ -59,7 +59,7 @@ pub record BookedAgrees (booked : Booked) (k : Settings) (steps : List Step) : T
 
 -- ---- one holding
 
--- what a slot shows: the bytes that wait for it, its phase, and whether it is shut
+-- the visible state of a slot: the bytes that wait for it, its phase, and whether it is shut
 abbrev pub shown_at : ℕ → Past → List ℕ × Phase × Bool
 shown_at c past = (waiting c past.flow, phase c past.notes, is_closing c past)
 
@@ -79,19 +79,19 @@ abbrev pub IsDone : Settings → List Step → List Step → Step → Result Rec
 IsDone k older steps s (Ok receipt) touched new = IsTaken k older steps s receipt touched new
 IsDone k older steps s (Err refused) touched new = IsRefusal refused (refusal k s (run k steps)) × BookedAgrees new k steps
 
--- the receipt tells the event's place, behind what was entered of the NOOP
+-- the receipt tells the event's place, after what was entered of the NOOP
 abbrev pub TellsPlace : ℕ → Noop → Result Receipt ApplyError → Tape → Type 0
 TellsPlace desk noop (Ok receipt) tape = receipt.at ≡ place_behind (noop_entries desk noop) tape
 TellsPlace desk noop (Err refused) tape = Unit {0}
 
--- the word of this slot, if there is one, was asked what became of the NOOP that the slot is owed
+-- the word of this slot, if there is one, was asked for the state of the NOOP that the slot is owed
 abbrev pub AsksWord : Option ℕ → Past → List WordLine → List WordLine → Type 0
 AsksWord None past old new = Unit {0}
 AsksWord (Some c) past old new = owes c past ≡ true → (line_at c old).looks < (line_at c new).looks
 
--- What a holding did: it asked the word of the event's slot, found this of the NOOP, and entered it; after that the
--- event was taken, or was refused and changed nothing. Both are entered on the tape, if one is kept, and in the desk's
--- share.
+-- The effect of a holding: it asked the word of the event's slot, found this of the NOOP, and entered it; after that
+-- the event was taken, or was refused and changed nothing. Both are entered on the tape, if one is kept, and in the
+-- desk's share.
 pub record Holding (k : Settings) (steps : List Step) (s : Step) (desk : ℕ) (noop : Noop) (result : Result Receipt ApplyError) (touched : List ℕ) (old new : Booked) (told : List Told) : Type 0 where
   pub asks : AsksWord (slot_of s) (run k steps) old.seat.lines new.seat.lines
   pub found : MayFind noop s (run k steps)
@@ -110,12 +110,12 @@ pub data Held (k : Settings) (steps : List Step) (s : Step) (desk : ℕ) (noop :
   asked : Holding k steps s desk noop result touched old new told → Held k steps s desk noop result touched old new told
   unasked : noop ≡ Left → NoRoom k steps result old new told → Held k steps s desk noop result touched old new told
 
--- a closing needs no memory, where no tape is kept
+-- a closing needs no memory, if no tape is kept
 abbrev pub NeedsNoMemory : Bool → Step → Type 0
 NeedsNoMemory on (Close c) = on ≡ false
 NeedsNoMemory on other = ⊥
 
--- what the drain of a slot did
+-- the effect of the drain of a slot
 pub record IsDrained (k : Settings) (steps : List Step) (pen slot : ℕ) (drained : Drained) (old new : Booked) (told : List Told) : Type 0 where
   pub opened : is_open slot (run k steps).notes ≡ true
   pub bytes_are : drained.bytes.bytes ≡ waiting slot (run k steps).flow
@@ -123,7 +123,7 @@ pub record IsDrained (k : Settings) (steps : List Step) (pen slot : ℕ) (draine
   pub agrees : BookedAgrees new k (Drain slot ∷ steps)
   pub tape : Grows (drain_entry pen slot drained.bytes.bytes ∷ []) old.tape new.tape told
 
--- a drain is refused where the slot isn't open; for memory only with a tape
+-- a drain is refused if the slot isn't open; for memory only with a tape
 abbrev pub IsDrainRefusal : ApplyError → ℕ → Past → Bool → Type 0
 IsDrainRefusal Memory slot past on = on ≡ true
 IsDrainRefusal NotOpen slot past on = is_open slot past.notes ≡ false

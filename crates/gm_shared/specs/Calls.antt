@@ -1,4 +1,4 @@
--- What a call says of the one history of all calls, which exists in proofs alone. Its newest entry is the first.
+-- The contract of a call, by the one history of all calls, which exists only in proofs. Its newest entry is the first.
 use Rattle.std.specs.Prelude.{◌≡◌, ℕ, ◌+◌, ◌*◌, Bool, true, if◌then◌else◌, List, [], ◌∷◌, ◌++◌, length, Option, Some, None, Result, Ok, Err}
 use Rattle.gm_notes.specs.declared.event.ApplyError.{ApplyError}
 use Rattle.gm_notes.specs.declared.event.ApplyError.TheVariants.{Memory}
@@ -21,14 +21,14 @@ use Rattle.gm_shared.specs.Histories.{Knows, calls_by}
 use Rattle.gm_shared.specs.Openings.{openings, counted}
 use Rattle.gm_shared.specs.Tokens.{if_done}
 
--- what has happened by a history
+-- the past of a history
 abbrev pub past_of : Settings → List Entry → Past
 past_of k log = run k (steps_of log)
 
 -- ---- a desk's call
 
 -- The event was taken after the entries `before`, with the definitions' answer and mode, and with a tape the place
--- behind them. Each slot that it changed is among the touched slots, and each that was changed since `older`, when the
+-- after them. Each slot that it changed is among the touched slots, and each that was changed since `older`, when the
 -- call began.
 pub record IsAnswered (k : Settings) (taped : Bool) (s : Step) (receipt : Receipt) (touched : List ℕ) (older before after : List Entry) : Type 0 where
   pub taken : refusal k s (past_of k before) ≡ None
@@ -45,11 +45,11 @@ abbrev pub done_in : Result Receipt ApplyError → Option Done
 done_in (Ok receipt) = Some receipt.done
 done_in (Err refused) = None
 
--- what a call adds to the history, the newest first: what it found of the NOOP, and then the event, if that was taken
+-- the entries that a call adds to the history, the newest first: the NOOP as it was found, and then the event, if taken
 abbrev pub added : ℕ → Step → Result Receipt ApplyError → Noop → List Entry
 added desk s result noop = if_done desk s (done_in result) (noop_entries desk noop)
 
--- The call found this of the NOOP of its event's slot, and the event was answered behind that.
+-- The call found this of the NOOP of its event's slot, and the event was answered after that.
 pub record Asks (k : Settings) (taped : Bool) (s : Step) (desk : ℕ) (noop : Noop) (result : Result Receipt ApplyError) (touched : List ℕ) (before after : List Entry) : Type 0 where
   pub found : MayFind noop s (past_of k before)
   pub after_is : after ≡ added desk s result noop ++ before
@@ -116,7 +116,7 @@ abbrev pub Gives : Settings → Bool → ℕ → Result Drained ApplyError → L
 Gives k taped slot (Ok drained) before = IsGiven k slot drained before
 Gives k taped slot (Err refused) before = IsDrainRefusal refused slot (past_of k before) taped
 
--- A drain of a slot by a pen, as a desk's call. What is refused enters nothing.
+-- A drain of a slot by a pen, as a desk's call. A refused drain enters nothing.
 pub record PenCalled (k : Settings) (taped : Bool) (pen slot : ℕ) (result : Result Drained ApplyError) (seen after : List Entry) : Type 0 where
   pub before : List Entry
   pub knows : Knows before (2 * pen + 1) seen

@@ -17,7 +17,7 @@ Begins old new = (newer : List Entry) × (new ≡ newer ++ old)
 abbrev pub OneBeginsTheOther : Type 0
 OneBeginsTheOther = (log mine yours : List Entry) → Begins mine log → Begins yours log → Begins mine yours ⊎ Begins yours mine
 
--- If a desk or a pen has seen what another call left, what it adds in a call comes behind all of that.
+-- If a desk or a pen has seen what another call left, what it adds in a call comes after all of that.
 pub record SeenIsOlder : Type 0 where
   pub desks : (k : Settings) (taped : Bool) (s : Step) (desk : ℕ) (result : Result Receipt ApplyError) (touched : List ℕ) (seen after left : List Entry)
       → (call : DeskCalled k taped s desk result touched seen after) → Begins left seen → Begins left call.before × Begins call.before after

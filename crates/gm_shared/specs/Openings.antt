@@ -24,7 +24,7 @@ openings c (e ∷ older) = opened_by c e.step e.answer (openings c older)
 abbrev pub most_openings : ℕ
 most_openings = 2 ^ 64 - 1
 
--- what a counter of 64 bits says
+-- the value of a counter of 64 bits
 abbrev pub counted : ℕ → ℕ
 counted n = min n most_openings
 
@@ -38,7 +38,7 @@ abbrev pub counted_up : Option ℕ → List ℕ → List ℕ
 counted_up None counts = counts
 counted_up (Some c) counts = set counts c (counted (count_at c counts + 1))
 
--- what all of them say together
+-- the sum of all of them
 abbrev pub total_of : List ℕ → ℕ
 total_of counts = counted (sum counts)
 

@@ -37,7 +37,7 @@ pub record IsPair (reading writing : SideState) : Type 0 where
   pub reads : reading.is_writing ≡ false
   pub writes : writing.is_writing ≡ true
 
--- what is added for one side, if anything is
+-- the passage added for one side, if any
 abbrev pub passages_of : ℕ → Option (ℤ × Bool) → List Passage
 passages_of side None = []
 passages_of side (Some passage) = record { side = side; socket = passage.0; is_served = passage.1 } ∷ []

@@ -1,4 +1,4 @@
--- What the lock keeps, and what callers of a shared book see.
+-- The invariant of the lock, and a shared book as its callers see it.
 use Rattle.std.specs.Prelude.{◌≡◌, ◌⊎◌, ℕ, zero, suc, ◌+◌, ◌*◌, Bool, true, if◌then◌else◌, List, [], ◌∷◌, ◌++◌, reverse, map, All, replicate, Result, Ok, Err}
 use Rattle.atomic_table.specs.Seated.{TableId}
 use Rattle.gm_notes.specs.Settings.{Settings}
@@ -21,7 +21,7 @@ use Rattle.gm_shared.specs.Histories.{Knows, AreBelow}
 use Rattle.gm_shared.specs.Openings.{Counts}
 use Rattle.gm_ghost.specs.Owners.{KeeperState, WitnessState}
 
--- a book that nobody shares yet, the settings under which it serves, and whether it keeps a tape
+-- a book that threads don't share yet, the settings under which it serves, and whether it keeps a tape
 pub record BlankState : Type 0 where
   pub table : TableId
   pub history : TableId
@@ -49,9 +49,9 @@ IsNew history keeper = HasMade 0 history keeper
 abbrev pub actor_count : ℕ → ℕ
 actor_count slots = 2 * slots + 1
 
--- What the lock keeps: the book agrees with the steps of the one history, which is legal under these settings and which
--- the tape, if one is kept, is. Each entry is of an actor of this book. Its words are in this table, and its counters
--- say how often slots were opened.
+-- The invariant of the lock: the book agrees with the steps of the one history, which is legal under these settings and
+-- which the tape, if one is kept, is. Each entry is of an actor of this book. Its words are in this table, and its
+-- counters say how often slots were opened.
 pub record IsGuarded (table : TableId) (k : Settings) (taped : Bool) (booked : Booked) (log : List Entry) : Type 0 where
   pub agrees : BookedAgrees booked k (steps_of log)
   pub legal : Legal k log
@@ -72,7 +72,7 @@ pub record GuardedState : Type 0 where
 abbrev pub HasSeenOwn : List Entry → WitnessState Entry → Type 0
 HasSeenOwn log witness = Knows log witness.who witness.seen
 
--- a pen took the NOOPs that were entered as taken, or one more, where its slot is said to be owed one still
+-- a pen took the NOOPs that were entered as taken, or one more, if its slot is said to be owed one still
 abbrev pub TookThose : Settings → List Step → PenState → Type 0
 TookThose k steps pen =
     (pen.takes ≡ takings pen.slot steps) ⊎ ((pen.takes ≡ takings pen.slot steps + 1) × (owes pen.slot (run k steps) ≡ true))
@@ -86,7 +86,7 @@ numbers_below (suc n) = numbers_below n ++ n ∷ []
 abbrev pub everybody : ℕ → List Actor
 everybody slots = map Desk (numbers_below slots) ++ (Desk slots ∷ map Pen (numbers_below slots))
 
--- What a share is of, and what it tells.
+-- The actor of a share, and its calls.
 abbrev pub told_by : Share → Actor × List Told
 told_by share = (share.actor, share.told.items)
 
@@ -94,10 +94,9 @@ told_by share = (share.actor, share.told.items)
 abbrev pub IsShareOf : Bool → List Entry → Actor × List Told → Type 0
 IsShareOf taped log share = share.1 ≡ share_of taped share.0 log
 
--- What a book was when it ended: the history that is handed out is legal, the core agrees with its steps, and the tape,
--- if one was kept, is it. Each entry is of an actor of this book. These are the shares of the desks and pens that were
--- given back, each what the history has of its own, and these their witnesses. Its counters say how often slots were
--- opened.
+-- A book after its end: the history that is handed out is legal, the core agrees with its steps, and the tape, if one
+-- was kept, is it. Each entry is of an actor of this book. These are the shares of the desks and pens that were given
+-- back, each what the history has of its own, and these their witnesses. Its counters say how often slots were opened.
 pub record IsEnded (k : Settings) (taped : Bool) (settled : Settled) (shares : List (Actor × List Told)) (witnesses : List (WitnessState Entry)) : Type 0 where
   pub log : List Entry
   pub log_is : settled.history.log ≡ log
@@ -126,7 +125,7 @@ abbrev pub WhySo : Settings → Bool → SettleError → List (Actor × List Tol
 WhySo k taped Memory shares witnesses = Unit {0}
 WhySo k taped (Differs settled) shares witnesses = IsUnsettled k taped settled shares witnesses
 
--- what holds of a book that ended, whether its shares add up or not
+-- a property of a book that ended, whether its shares add up or not
 abbrev pub IfSettled : (Settled → Type 0) → Result Settled SettleError → Type 0
 IfSettled P (Ok settled) = P settled
 IfSettled P (Err Memory) = Unit {0}

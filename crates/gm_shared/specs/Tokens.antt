@@ -1,4 +1,4 @@
--- What is entered in the history.
+-- The entries of the history.
 use Rattle.std.specs.Prelude.{◌≡◌, ℕ, ◌+◌, List, [], ◌∷◌, ◌++◌, Option, Some, None}
 use Rattle.gm_notes.specs.Steps.{Step}
 use Rattle.gm_notes.specs.Servers.{step_of}

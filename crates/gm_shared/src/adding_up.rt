@@ -33,7 +33,7 @@ impl<'a> Parts<'a> {
 }
 
 impl TapeStep {
-    /// What it is, of which slot, with which number and which bytes.
+    /// Its parts. Kinds without a slot, a number or bytes have 0, 0 or none.
     fn parts(&self) -> Parts<'_>
         ensures { parts_of self.now ≡ (result.kind, result.slot, result.number, result.bytes.now) }
     {
@@ -78,7 +78,7 @@ impl Answer {
 }
 
 impl Told {
-    /// Whether it tells of this entry at this place.
+    /// Whether it is this entry, at this place.
     fn tells(&self, at: u64, entry: &Entry) -> bool
         ensures { MatchBool result (self.now ≡ record { at = at; step = entry.now.step; answer = entry.now.answer })
             (self.now ≡ record { at = at; step = entry.now.step; answer = entry.now.answer } → ⊥) }
@@ -130,7 +130,7 @@ fn entry_from(entries: &[Entry], next: u64, at: u64) -> Option<&Entry>
     entries.get(at as usize)
 }
 
-// Whether a share is what the tape has of its actor, of whom it has `count` entries.
+// Whether a share is what the tape has of its actor. The tape has `count` entries of the actor.
 fn share_is(entries: &[Entry], actor: Actor, share: &[Told], count: usize) -> bool
     requires { count ≡ length (share_from actor 0 entries.now) }
     ensures { MatchBool result (share.now ≡ share_from actor 0 entries.now) (share.now ≡ share_from actor 0 entries.now → ⊥) }

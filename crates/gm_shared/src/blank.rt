@@ -1,4 +1,4 @@
-//! A book that nobody shares yet.
+//! A book that threads don't share yet.
 
 ghost use Rattle.std.specs.Prelude.{◌≡◌, IfOk};
 
@@ -40,7 +40,7 @@ impl Model for Blank {
 impl Blank {
     ghost use Rattle.gm_shared.specs.Tapes.{is_on};
 
-    /// The book of a new server under these settings, with a tape where that is asked. Names and ids come from
+    /// The book of a new server under these settings, with a tape if that is asked. Names and ids come from
     /// strangers, so its tables hash with this seed.
     pub fn new(
         alloc: Global,

@@ -24,7 +24,7 @@ use gm_word::{BookSeat, PenSeat, Phase, SleepTable};
 use std::alloc::{AllocError, Global};
 use std::hash::RandomState;
 
-/// What the lock guards: the core, the seat at the sleep words, and the tape, if one is kept.
+/// The state that the lock guards: the core, the seat at the sleep words, and the tape, if one is kept.
 ///
 /// A book agrees with settings and with lists of steps, the newest first, as its core does; the phases that its seat
 /// knows are those that the steps give; and the tape that it keeps is one history, of these steps.
@@ -56,7 +56,7 @@ impl Booked {
     ghost use Rattle.gm_shared.specs.Tapes.{is_on};
 
     /// The book of a server to which nothing has happened, the table of its sleep words, and a pen for each slot, in
-    /// their order; where that is asked, it keeps a tape. Names and ids come from strangers, so the core's tables hash
+    /// their order; if that is asked, it keeps a tape. Names and ids come from strangers, so the core's tables hash
     /// with this seed.
     pub fn new(
         alloc: Global,
@@ -89,19 +89,19 @@ impl Booked {
         Ok((booked, table, pens))
     }
 
-    /// Lets an event take effect, in one holding. It asks the word of the event's slot what became of the NOOP that the
-    /// slot is owed. One that was taken is entered first; so is one that is still owed and that the event withdraws, as
-    /// taken or as withdrawn. What is refused changes nothing but that; a refusal is one of `JobServer::apply`. What is
-    /// entered on the tape is added to the desk's share.
+    /// Lets an event take effect, in one holding. It asks the word of the event's slot for the state of the NOOP that
+    /// the slot is owed. One that was taken is entered first; so is one that is still owed and that the event
+    /// withdraws, as taken or as withdrawn. A refused event changes nothing but that; a refusal is one of
+    /// `JobServer::apply`. The entry on the tape is added to the desk's share.
     ///
-    /// With a tape room for what it enters is found first, and copies of the bytes: where that fails `Memory` comes
-    /// and nothing changes, also where the event would be refused.
+    /// With a tape room for what it enters is found first, and copies of the bytes: if that fails `Memory` comes
+    /// and nothing changes, even if the event would be refused.
     ///
     /// Each slot whose waiting bytes, phase or shut changed is put into `touched`, and perhaps more: it is for them
     /// that a writer may have something to do. A refused event adds none. The set is the caller's, and not a part of
-    /// the receipt, because a receipt is moved at each return. `freed` becomes what is to be freed once no lock is
-    /// held: the body of a job that ended. `found` becomes what was found of the slot's NOOP, also where the event is
-    /// refused.
+    /// the receipt, because a receipt is moved at each return. `freed` becomes the memory to free once no lock is
+    /// held: the body of a job that ended. `found` becomes the state in which the slot's NOOP was found, even if the
+    /// event is refused.
     pub(crate) fn hold(
         &mut self,
         call: DeskCall<'_>,
@@ -141,9 +141,9 @@ impl Booked {
         })
     }
 
-    /// Takes the bytes that wait for a slot, which wait no more. `NotOpen` comes where the slot isn't open; it changes
-    /// nothing. Without a tape it needs no memory; with one `Memory` comes where there is none for the entry and its
-    /// bytes, and changes nothing. The pen is the one that asks; what is entered on the tape is added to its share.
+    /// Takes the bytes that wait for a slot, which wait no more. `NotOpen` comes if the slot isn't open; it changes
+    /// nothing. Without a tape it needs no memory; with one `Memory` comes if there is none for the entry and its
+    /// bytes, and changes nothing. The pen is the one that asks; the entry on the tape is added to its share.
     pub(crate) fn drain_into(
         &mut self,
         pen: u32,
@@ -203,7 +203,7 @@ impl Booked {
         }
     }
 
-    /// Looks at the word of the event's slot, and enters what it finds of the NOOP that is owed there.
+    /// Looks at the word of the event's slot, and enters the NOOP that is owed there, as it finds it.
     fn resolve_noop(&mut self, table: &SleepTable, read: &ReadEvent<'_>) -> Noop
         requires table { self.old.seat.table ≡ table.now }
         requires reads { ReadsEvent read.now.event read.now.action }

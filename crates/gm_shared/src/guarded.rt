@@ -1,4 +1,4 @@
-//! What the lock guards.
+//! The state that the book's lock guards.
 
 ghost use Rattle.std.specs.Prelude.{◌≡◌, [], IfErr};
 ghost use Rattle.gm_actions.specs.ReadEvents.{ReadsEvent};
@@ -41,7 +41,7 @@ impl<K: BookName> Model for Guarded<K> {
     ghost invariant = { λ g. IsGuarded K.table K.settings K.taped g.booked g.keeper.log × (g.keeper.table ≡ K.history) × (g.keeper.made ≡ actor_count K.settings.slots) };
 }
 
-// What an event that was taken made.
+// The answer to an event that was taken; none if it was refused.
 fn done_in(answer: &Result<Receipt, ApplyError>) -> Option<Done>
     ensures { result ≡ done_in answer.now }
 {

@@ -1,4 +1,4 @@
-//! The one history, which exists in proofs alone.
+//! The one history, which exists only in proofs.
 
 ghost use Rattle.std.specs.Prelude.{◌≡◌, ◌++◌};
 ghost use Rattle.gm_ghost.specs.Owners.{kept_more, sees};
@@ -13,10 +13,10 @@ use std::marker::Brand;
 /// The word at which the steps of the history are made.
 pub(crate) type History = gm_ghost::ListTable<Entry>;
 
-/// What knows the whole history, and adds to it.
+/// Knows the whole history, and adds to it.
 pub type Keeper = gm_ghost::Keeper<Entry>;
 
-/// What one actor, a desk or a pen, has seen of the history.
+/// The part of the history that one actor, a desk or a pen, has seen.
 pub(crate) type Witness = gm_ghost::Witness<Entry>;
 
 impl Owned for Entry {
@@ -25,8 +25,8 @@ impl Owned for Entry {
     ghost owner = { entry_owner };
 }
 
-/// Adds what the actor did, and lets it see the history, which goes on from what it had seen, with nothing of the actor
-/// between.
+/// Adds the actor's entries, and lets it see the history, which goes on from what it had seen, with nothing of the
+/// actor between.
 pub(crate) fn enter(
     keeper: &mut Keeper,
     history: &History,

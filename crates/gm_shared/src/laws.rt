@@ -1,4 +1,4 @@
-//! Laws of the one history of all calls, which exists in proofs alone. Each function is a law: its body does nothing,
+//! Laws of the one history of all calls, which exists only in proofs. Each function is a law: its body does nothing,
 //! and its contract is the law.
 
 ghost use Rattle.gm_shared.specs.Laws.{OneBeginsTheOther, SeenIsOlder, OwnAreWhole};
@@ -8,7 +8,7 @@ pub fn one_begins_the_other()
     ensures { OneBeginsTheOther }
 {}
 
-/// What a desk or a pen adds to the history comes behind all that it has seen of it.
+/// The entries that a desk or a pen adds to the history come after all of the history that it has seen.
 pub fn what_was_seen_is_older()
     ensures { SeenIsOlder }
 {}

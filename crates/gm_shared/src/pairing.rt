@@ -1,5 +1,5 @@
-//! Through which sockets the connections of slots went: what reads from a slot's connection and what writes to it are
-//! behind two locks, and both know the same list of sockets. Only proofs know the list.
+//! Through which sockets the connections of slots went: the reader of a slot's connection and its writer are behind two
+//! locks, and both know the same list of sockets. Only proofs know the list.
 
 ghost use Rattle.std.specs.Prelude.{◌≡◌, ◌+◌, ◌++◌, IfSome, MatchBool, Some, true, false};
 ghost use Rattle.gm_ghost.specs.Lists.{AreBelow};
@@ -76,7 +76,7 @@ impl<K: BookName> Model for Pairing<K> {
         × AreBelow side_of (2 * p.slots) p.keeper.log };
 }
 
-/// What one side of a slot knows: the sockets of all its connections so far. Contracts see the slot, whether it is the
+/// One side of a slot, which knows the sockets of all its connections so far. Contracts see the slot, whether it is the
 /// side that writes, and the sockets, the last one first, with whether their connections are served.
 #[derive(Drop)]
 pub struct PairSide<K: BookName> {

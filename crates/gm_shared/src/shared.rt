@@ -1,5 +1,5 @@
-//! The book that threads share, and what each of them has of its own: desks, at which events are handed in, and pens,
-//! which take out what waits for a slot.
+//! The book that threads share, and the parts that threads own: desks, at which events are handed in, and pens, which
+//! take out the NOOPs and bytes that wait for a slot.
 
 ghost use Rattle.std.specs.Prelude.{◌≡◌, ◌+◌, ◌*◌, IfOk, IfErr, OnOk, MatchBool, map, All, [], true};
 ghost use Rattle.gm_actions.specs.ReadEvents.{ReadsEvent};
@@ -58,8 +58,8 @@ pub struct Desk<K: BookName> {
     ghost told: { share.items ≡ share_of K.taped (actors.Desk number) witness.seen },
 }
 
-/// What takes out of the book what waits for one slot: its NOOP, and its bytes. Its number on the tape is its slot's;
-/// it has a share as a desk has, which has only drains of its slot.
+/// Takes the NOOP and the bytes that wait for one slot out of the book. Its number on the tape is its slot's; it has a
+/// share as a desk has, which has only drains of its slot.
 #[derive(Drop)]
 pub struct Pen<K: BookName> {
     pub(crate) slot: u32,
@@ -75,7 +75,7 @@ pub struct Pen<K: BookName> {
 }
 
 impl<K: BookName> Shared<K> {
-    /// Opens a book: what is shared, a desk and a pen for each slot in their order, and the control desk.
+    /// Opens a book: the shared part, a desk and a pen for each slot in their order, and the control desk.
     pub fn open(
         alloc: Global,
         blank: Blank,
@@ -220,10 +220,10 @@ impl<K: BookName> Pen<K> {
         self.seat.take(&shared.table)
     }
 
-    /// Takes the bytes that wait for the slot, which wait no more, and tells whether it is shut. `NotOpen` comes where
-    /// the slot isn't open; it changes nothing. The drain is the next entry of the history, behind all that the pen has
+    /// Takes the bytes that wait for the slot, which wait no more, and tells whether it is shut. `NotOpen` comes if
+    /// the slot isn't open; it changes nothing. The drain is the next entry of the history, after all that the pen has
     /// seen of it. It may wait for the lock. Without a tape it needs no memory; with one the drain is in the pen's
-    /// share, and `Memory` comes where there is none for that, and changes nothing.
+    /// share, and `Memory` comes if there is none for that, and changes nothing.
     pub fn drain(&mut self, rt: &impl Wait, shared: &Shared<K>) -> Result<Drained, ApplyError>
         ensures called { PenCalled K.settings K.taped self.old.slot self.old.slot result self.old.witness.seen self.new.witness.seen }
         ensures slot { self.new.slot ≡ self.old.slot }
@@ -234,7 +234,7 @@ impl<K: BookName> Pen<K> {
     }
 }
 
-// A desk for each slot and a pen for each seat, in their order, of which none has seen anything.
+// A desk for each slot and a pen for each seat, in their order. None has seen anything.
 fn new_owners<K: BookName>(
     alloc: Global,
     history: &History,

@@ -1,4 +1,4 @@
-//! A call for tests: one that `gmd` makes, without what it hands along.
+//! A call for tests: one that `gmd` makes, without some of its arguments.
 
 ghost use Rattle.std.specs.Prelude.{◌≡◌};
 ghost use Rattle.std.specs.Result.{IsErrOf};
@@ -16,9 +16,9 @@ use std::sync::Wait;
 
 impl<K: BookName> Desk<K> {
     /// Hands in an event, which takes effect in one critical section, as `Booked::hold` says: it is the next entry of
-    /// the history, behind all that the desk has seen of it. It may wait for the lock. Without a tape a closing never
+    /// the history, after all that the desk has seen of it. It may wait for the lock. Without a tape a closing never
     /// lacks memory. With one the event and its place are in the desk's share, after what was found of a NOOP. It is
-    /// for callers that notify nobody of what the event touched.
+    /// for callers that notify no other thread.
     pub fn apply(
         &mut self,
         rt: &impl Wait,

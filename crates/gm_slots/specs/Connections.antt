@@ -1,5 +1,5 @@
--- A connection's whole life: what was read from it, and what was written to it, said of the one history of all calls.
--- Its newest entry is the first. A slot has one connection after another, each from an opening of the slot on.
+-- A connection's whole life: the bytes read from it, and those written to it, by the one history of all calls. Its
+-- newest entry is the first. A slot has one connection after another, each from an opening of the slot on.
 use Rattle.std.specs.Prelude.{◌≡◌, ℕ, ◌+◌, ℤ, ◌*◌, ◌==◌, ◌&&◌, if◌then◌else◌, Bool, true, List, [], ◌∷◌, ◌++◌, reverse, length, Option, Some, None, IfSome}
 use Rattle.gm_feeder.specs.declared.units.Limits.{Limits}
 use Rattle.gm_feeder.specs.Units.{Item, Waits}
@@ -24,19 +24,19 @@ use Rattle.gm_slots.specs.Owners.{AreOwn, says}
 
 -- ---- an opening
 
--- what the abstract server sent to slot c since its n-th opening, up to the next one
+-- the bytes that the abstract server sent to slot c since its n-th opening, up to the next one
 abbrev pub sent_at : Settings → ℕ → ℕ → List Entry → List ℕ
 sent_at k n c [] = []
 sent_at k n c (e ∷ older) = if openings c (e ∷ older) == n then sent c (past_of k (e ∷ older)).flow else sent_at k n c older
 
--- what waits for slot c at its n-th opening, or did when that was closed
+-- the bytes that wait for slot c at its n-th opening, or did when it was closed
 abbrev pub left_at : Settings → ℕ → ℕ → List Entry → List ℕ
 left_at k n c [] = []
 left_at k n c (e ∷ older) =
     if (openings c (e ∷ older) == n) && is_open c (past_of k (e ∷ older)).notes then waiting c (past_of k (e ∷ older)).flow else left_at k n c older
 
--- what slot c said since its n-th opening, up to the next one, and was taken: its units, faults and closing, the newest
--- first
+-- the events of slot c since its n-th opening, up to the next one, that were taken: units, faults and closing, the
+-- newest first
 abbrev pub said_since : ℕ → ℕ → List Entry → List Step
 said_since n c [] = []
 said_since n c (e ∷ older) = if says c (slot_of (step_in e.step)) && (openings c older == n) then step_in e.step ∷ said_since n c older else said_since n c older
@@ -44,7 +44,7 @@ said_since n c (e ∷ older) = if says c (slot_of (step_in e.step)) && (openings
 -- ---- what was read
 
 -- The connection of the n-th opening of slot c is closed, and this was read from it: what the slot said are the first
--- units of that, in order, then the fault behind them or none, and the closing. If it is said that these are all, no
+-- units of that, in order, then the fault after them or none, and the closing. If it is said that these are all, no
 -- whole unit is left, and there was no fault.
 pub record IsHandedIn (k : Settings) (limits : Limits) (log : List Entry) (c n : ℕ) (heard : Heard) : Type 0 where
   pub own : IsReadThrough heard.socket heard.read
@@ -63,13 +63,13 @@ AreHandedIn k limits log c (heard ∷ older) = IsHandedIn k limits log c (length
 
 -- ---- what was written
 
--- the bytes of drains, of which the newest is the first, in the order in which they were drained
+-- the bytes of drains in the order in which they were drained; the list has the newest first
 abbrev pub joined : List (List ℕ) → List ℕ
 joined [] = []
 joined (gave ∷ older) = joined older ++ gave
 
 -- The messages are the drains of slot c at its n-th opening, one for one, each with the NOOP that was taken for it
--- behind its bytes or with none. A prefix of what they send was written to the connection. Meanwhile the pen took their
+-- after its bytes or with none. A prefix of what they send was written to the connection. Meanwhile the pen took their
 -- NOOPs, and perhaps others, which are lost. If it is said that all was written, nothing of the messages is missing
 -- and no NOOP is lost. The drained bytes, and then what still waited as the slot was closed, are all that the abstract
 -- server sent since that opening.

@@ -1,4 +1,4 @@
--- What a slot's pen was given, which is what the abstract server sends.
+-- The bytes that a slot's pen got, which are those that the abstract server sends.
 use Rattle.std.specs.Prelude.{◌≡◌, ℕ, ◌==◌, if◌then◌else◌, Bool, true, false, List, [], ◌∷◌, ◌++◌, Option, Some, None}
 use Rattle.gm_notes.specs.Flow.{Flow, sent, waiting}
 use Rattle.gm_history.specs.Laws.{IsPrefix}

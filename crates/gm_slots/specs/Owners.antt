@@ -1,5 +1,5 @@
--- Whose the entries of a history are: what a connection says is handed in at its slot's desk, and its slot's pen drains
--- what waits for it.
+-- The owners of a history's entries: a connection's events are handed in at its slot's desk, and its slot's pen drains
+-- the bytes that wait for it.
 use Rattle.std.specs.Prelude.{◌≡◌, ℕ, ◌==◌, if◌then◌else◌, Bool, true, false, List, [], ◌∷◌, All, Option, Some, None}
 use Rattle.gm_shared.specs.declared.tape.Actor.{Actor}
 use Rattle.gm_shared.specs.declared.tape.Actor.TheVariants.{Desk, Pen}
@@ -24,7 +24,7 @@ abbrev pub says : ℕ → Option ℕ → Bool
 says c None = false
 says c (Some d) = d == c
 
--- what a slot says among these steps
+-- a slot's events among these steps
 abbrev pub said_at : ℕ → List Step → List Step
 said_at c [] = []
 said_at c (s ∷ more) = if says c (slot_of s) then s ∷ said_at c more else said_at c more

@@ -31,7 +31,7 @@ abbrev pub AllClosed : BookSettings → List Step → Type 0
 AllClosed k steps = (c : ℕ) → c < k.slots → is_open c (run k steps).notes ≡ false
 
 -- A server ended with the history of this book, which is legal, and in which each entry is its desk's or pen's own. The
--- core is what it leads to, and the tape, where one was kept, is it. The shares add up with the tape, and none is
+-- core is what it leads to, and the tape, if one was kept, is it. The shares add up with the tape, and none is
 -- missing. No slot is open, each slot was opened as often as is said, and each connection was served as the history
 -- says, with these limits of a unit.
 pub record IsWhole (k : BookSettings) (taped : Bool) (limits : Limits) (history : TableId) (settled : Settled) (accounts : List Account) : Type 0 where
@@ -60,7 +60,7 @@ SettledSo k taped limits history (Err (of_book.Differs settled)) accounts = IsPa
 abbrev pub EndsSo : BookSettings → Bool → Limits → Served → Type 0
 EndsSo k taped limits served = (history : TableId) × SettledSo k taped limits history served.book served.accounts.items
 
--- what is said of that: how many connections its book opened, and how many entries its tape has
+-- the summary of it: how many connections its book opened, and how many entries its tape has
 abbrev pub summary_of : Result Settled SettleError → Result Summary ServeError
 summary_of (Ok settled) = Ok (record { connections = total_of settled.openings; entries = vec_len settled.tape })
 summary_of (Err of_book.Memory) = Err errors.Memory

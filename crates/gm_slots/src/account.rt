@@ -1,12 +1,12 @@
-//! What a server that ended hands out of a slot's connections.
+//! The account of a slot's connections that a server hands out at its end.
 
 use gm_delivery::Sendings;
 use gm_feeder::Limits;
 use gm_ghost::Ghost;
 use gm_session::Hearings;
 
-/// What was read from a slot's connections, whose units were within these limits, and what was written to them. Only
-/// proofs know that.
+/// The bytes that were read from a slot's connections, with units within these limits, and those written to them. Only
+/// proofs know them.
 #[derive(Drop)]
 pub struct Account {
     pub limits: Limits,

@@ -58,7 +58,7 @@ fn are_of(shares: &[Share], actors: &[Actor]) -> bool
     rest.is_empty()
 }
 
-/// What slots were given, and the accounts of their connections.
+/// The desks and pens that slots were given, and the accounts of their connections.
 #[derive(Drop)]
 struct AllParts<K: BookName> {
     desks: Vec<Desk<K>>,
@@ -95,7 +95,7 @@ fn all_parts<K: BookName>(
     })
 }
 
-/// Whether none of a book's slots, of which there are this many, is open any more.
+/// Whether no slot of a book with this many slots is open any more.
 fn are_closed(core: &Core, slots: u32) -> bool
     ensures { (k : BookSettings) (steps : List Step) → k.slots ≡ slots → CoreAgrees core.now k steps → MatchBool result (AllClosed k steps) (AllClosed k steps → ⊥) }
 {

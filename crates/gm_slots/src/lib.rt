@@ -1,5 +1,5 @@
-//! What a server has of each of its slots, and how its book is settled in the end: everybody's share is there, and each
-//! connection has its account.
+//! The slots of a server, and how its book is settled in the end: everybody's share is there, and each connection has
+//! its account.
 #![tactic(auto)]
 
 mod account;

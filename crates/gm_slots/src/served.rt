@@ -10,14 +10,15 @@ use gm_shared::{SettleError, Settled};
 /// A server that served and ended, with its book as it was settled. Only `settle_slots` makes one.
 #[derive(Drop)]
 pub struct Served {
-    // What its book was, and whether the shares of its connections add up.
+    // The settled book, and whether the shares of its connections add up.
     pub(crate) book: Result<Settled, SettleError>,
-    // What each slot's connections read and were written, in the slots' order, which only proofs know.
+    // The accounts of the slots' connections, in the slots' order; only proofs know their contents.
     pub(crate) accounts: Vec<Account>,
 }
 
 impl Served {
-    /// What is said of it, or why its book couldn't be settled.
+    /// The summary, or why its book couldn't be settled: `Memory`, or `Differs`: the tape differs from the
+    /// shares, a slot is still open, or an account lacks an opening or has other limits.
     pub fn summary(&self) -> Result<Summary, ServeError>
         ensures { result ≡ summary_of self.now.book }
     {
@@ -31,7 +32,7 @@ impl Served {
         }
     }
 
-    /// The status that a program ends with that served so.
+    /// The exit status of a program that served so.
     pub fn status(&self) -> u8
         ensures { result ≡ served_status self.now }
     {

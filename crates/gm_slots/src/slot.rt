@@ -15,13 +15,13 @@ use std::sync::Mutex;
 /// One slot: its reading side and its lane.
 #[derive(Drop)]
 pub struct Slot<K: BookName> {
-    /// What its connection says. The thread that reads from it has it meanwhile.
+    /// The session of its connection. The thread that reads from it has it meanwhile.
     pub talk: Mutex<Talk<K>>,
-    /// What its connection is sent.
+    /// The deliveries to its connection.
     pub lane: Lane<K>,
 }
 
-/// What was given to a slot, and the account of its connections.
+/// The desk and the pen that a slot was given, and the account of its connections.
 #[derive(Drop)]
 pub(crate) struct SlotParts<K: BookName> {
     pub(crate) desk: OwnDesk<K>,
@@ -44,8 +44,8 @@ fn are_paired<K: BookName>(
 }
 
 impl<K: BookName> Slot<K> {
-    /// What was given to the slot, and the account of its connections, which says how many they were unless the two
-    /// sides of the slot aren't there.
+    /// The desk and the pen that the slot was given, and the account of its connections, which says how many they were
+    /// unless the two sides of the slot aren't there.
     pub(crate) fn into_parts(self, pairing: &mut Pairing<K>) -> SlotParts<K>
         ensures { IsAccount K.settings (result.desk.desk.number, result.desk.desk.witness.seen) (result.pen.slot, result.pen.witness.seen, result.pen.seat.takes)
             result.account }
@@ -78,7 +78,7 @@ impl<K: BookName> Slot<K> {
     }
 }
 
-/// What each slot has of its own, in their order.
+/// The slots, in their order.
 fn new_slots<K: BookName>(
     alloc: Global,
     desks: Vec<Desk<K>>,

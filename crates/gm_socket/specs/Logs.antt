@@ -1,4 +1,4 @@
--- What a log of calls has.
+-- The contents of a log of calls.
 use Rattle.std.specs.Prelude.{List, ℕ, ◌++◌, ◌∷◌}
 use Rattle.gm_feeder.specs.declared.source.Answer.{Answer}
 use Rattle.gm_socket.specs.declared.log.Logged.{Logged}

@@ -1,4 +1,4 @@
--- A source and a writer, each with its log, and what the last call of a source left.
+-- A source and a writer, each with its log, and the rest that the last call of a source left.
 use Rattle.std.specs.Prelude.{◌≡◌, ℕ, Bool, true, false, nat_lt, if◌then◌else◌, List, [], ◌∷◌, Option, Some, None}
 use Rattle.std.specs.declared.io.ErrorKind.TheVariants.{WouldBlock, TimedOut}
 use Rattle.gm_feeder.specs.declared.source.Answer.{Answer}
@@ -6,7 +6,7 @@ use Rattle.gm_feeder.specs.declared.source.Answer.TheVariants.{Moved, Failed}
 use Rattle.gm_socket.specs.declared.source.Left.{Left}
 use Rattle.gm_socket.specs.declared.source.Left.TheVariants.{Perhaps, Little, Nothing}
 
--- a source, the bytes that were to come when it was taken, where they are known, those that it gave since, what its
+-- a source, the bytes that were to come when it was taken, if they are known, those that it gave since, what its
 -- calls answered, the newest first, and the last of these answers, until it is taken
 pub record SourceState (I : Type 0) : Type 0 where
   pub source : I
@@ -15,7 +15,7 @@ pub record SourceState (I : Type 0) : Type 0 where
   pub answers : List Answer
   pub last : Option Answer
 
--- a writer, its contents when it was taken, where they are known, what was written to it since, and what its calls
+-- a writer, its contents when it was taken, if they are known, what was written to it since, and what its calls
 -- answered, the newest first
 pub record WriterState (W : Type 0) : Type 0 where
   pub writer : W
@@ -23,7 +23,7 @@ pub record WriterState (W : Type 0) : Type 0 where
   pub bytes : List ℕ
   pub answers : List Answer
 
--- what is kept of the last call is what it answered
+-- the answer kept of the last call is the one that it gave
 abbrev pub IsLast : Option Answer → List Answer → Type 0
 IsLast None answers = Unit {0}
 IsLast (Some answer) [] = ⊥
@@ -34,7 +34,7 @@ IsLast (Some answer) (newest ∷ older) = newest ≡ answer
 abbrev pub left_after : ℕ → ℕ → Left
 left_after count size = if nat_lt count size then Little else Perhaps
 
--- what the last call left; where there was none, there may be more
+-- the rest that the last call left; if no answer is kept, there may be more
 abbrev pub left_by : Option Answer → Left
 left_by None = Perhaps
 left_by (Some (Moved count size)) = left_after count size

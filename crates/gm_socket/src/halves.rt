@@ -15,14 +15,14 @@ use std::net::{Shutdown, TcpStream};
 use std::os::fd::{AsRawFd, RawFd};
 use std::sync::Arc;
 
-/// What is read from a connection's socket.
+/// The reading half of a connection's socket.
 #[derive(Drop)]
 pub struct ReadHalf {
     stream: Arc<TcpStream, Global>,
 }
 
 impl ReadHalf {
-    /// The socket's number, for what reports that there is something to read.
+    /// The socket's number, for the poll that reports when there is something to read.
     pub fn descriptor(&self) -> RawFd
         ensures { result ≡ stream_raw_fd self.now.stream.value }
     {
@@ -34,7 +34,7 @@ impl Source<Patience> for ReadHalf {
     ghost use Rattle.std.specs.Prelude.{Some, None};
     ghost use Rattle.std.specs.Net.Tcp.{stream_raw_fd};
 
-    // What a socket gives isn't known.
+    // The bytes that a socket gives aren't known.
     ghost remaining = { λ _. None };
 
     ghost heard = { λ _. None };
@@ -43,7 +43,7 @@ impl Source<Patience> for ReadHalf {
 
     ghost socket = { λ r. Some (stream_raw_fd r.stream.value) };
 
-    /// Reads what comes next into the room.
+    /// Reads the next bytes into the room.
     fn read_by(&mut self, by: &Patience, room: &mut [u8]) -> io::Result<usize> {
         let flags = match by {
             Patience::Waits => 0,
@@ -83,7 +83,7 @@ impl KnownWriter for Socket {
     ghost use Rattle.std.specs.Prelude.{false, Some, None};
     ghost use Rattle.std.specs.Net.Tcp.{stream_raw_fd};
 
-    // What a socket has isn't known.
+    // The bytes that a socket has aren't known.
     ghost contents = { λ _. None };
 
     ghost answers = { λ _. None };
@@ -113,7 +113,7 @@ impl Wire<Patience> for Socket {
     }
 }
 
-/// The two halves of one connection's socket, of which nothing was read or written yet.
+/// The two halves of one connection's socket. Nothing was read or written through them yet.
 #[derive(Drop)]
 pub struct Halves {
     pub reading: LoggedSource<ReadHalf>,

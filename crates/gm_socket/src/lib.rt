@@ -1,6 +1,6 @@
-//! The two halves of a connection's socket: what only reads, and what only writes. No other code reads from a
-//! connection or writes to it. Each half has a log of the bytes that it gave or took, and of what each of its calls
-//! answered.
+//! The two halves of a connection's socket: one only reads, and the other only writes. No other code reads from a
+//! connection or writes to it. Each half has a log of the bytes that it gave or took, and of the answers of its
+//! calls.
 #![tactic(auto)]
 
 mod halves;

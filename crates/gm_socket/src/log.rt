@@ -9,8 +9,8 @@ use std::alloc::{AllocError, Global};
 use std::collections::LinkedList;
 use std::marker::{Brand, Model};
 
-/// What a log has: what its owner had when it was begun, where that is known; the bytes that calls moved since; and
-/// what these calls answered, the newest first. None but an empty one is made.
+/// The contents of a log: what its owner had when the log was begun, if that is known; the bytes that calls moved
+/// since; and what these calls answered, the newest first. None but an empty one is made.
 #[derive(Drop)]
 pub struct Logged {
     pub before: Option<LinkedList<u8>>,
@@ -39,7 +39,7 @@ impl Model for Log {
 }
 
 impl Log {
-    /// A log that begins as the call picks, of what is passed.
+    /// A log that begins as the call picks by its argument.
     pub fn new<X, E: Worth<Logged>>(alloc: Global, of: &X) -> Result<Log, AllocError>
         ensures { IfOk result (λ log. log ≡ E.worth) }
     {

@@ -1,4 +1,4 @@
-//! What is read from a connection.
+//! The bytes read from a connection, with a log of the reads.
 
 ghost use Rattle.std.specs.Prelude.{◌≡◌, [], None, IfOk};
 ghost use Rattle.gm_socket.specs.Sources.{left_by, has_timed_out};
@@ -10,7 +10,7 @@ use std::io;
 use std::io::ErrorKind;
 use std::marker::{Brand, Model};
 
-/// What a read left.
+/// Whether a read left something to read.
 #[derive(Clone, Copy, Debug, PartialEq, Eq)]
 pub enum Left {
     /// There may be more to read: the read was filled, or nothing was read yet.
@@ -27,7 +27,7 @@ pub enum Left {
 pub struct LoggedSource<I: Source<Patience>> {
     source: I,
     log: Log,
-    /// What the last call answered, until it is taken.
+    /// The last call's answer, until it is taken.
     last: Option<Answer>,
 }
 

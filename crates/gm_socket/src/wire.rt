@@ -2,18 +2,18 @@
 
 use std::io;
 
-/// What takes bytes, of which contracts may know what it holds, and what each call answered.
+/// Takes bytes. Contracts may know all that it holds, and what each call answered.
 pub trait KnownWriter {
     ghost use Rattle.std.specs.Prelude.{◌≡◌, List, ℕ, ℤ, Bool, Option};
     ghost use Rattle.gm_feeder.specs.declared.source.Answer.{Answer};
 
-    // What it holds, where that is known.
+    // The bytes that it holds, if they are known.
     ghost contents: { Self → Option (List ℕ) };
 
-    // What each call answered so far, the newest first, where that is known.
+    // The answers of the calls so far, the newest first, if they are known.
     ghost answers: { Self → Option (List Answer) };
 
-    // The number of the socket that it writes to, where it is known.
+    // The number of the socket that it writes to, if it is known.
     ghost socket: { Self → Option ℤ };
 
     // Whether its time is over, so that nothing more is to be written.
@@ -24,8 +24,8 @@ pub trait KnownWriter {
         ensures { result ≡ is_over self.now };
 }
 
-/// What takes bytes, and is told how it is to write. So what a connection keeps between deliveries needs no reference
-/// to whoever delivers.
+/// Takes bytes. The caller says how it writes, so that a connection keeps no reference between deliveries to the thread
+/// that delivers.
 pub trait Wire<E>: KnownWriter {
     ghost use Rattle.std.specs.Prelude.{◌≡◌, length};
     ghost use Rattle.std.specs.Io.{WritesAtMost};

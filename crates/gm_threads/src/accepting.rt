@@ -34,7 +34,7 @@ const ENFILE: i32 = 23;
 /// The error of a socket that doesn't listen in this way (accept(2)).
 const EOPNOTSUPP: i32 = 95;
 
-/// Has `accept` return where no connection comes for a while.
+/// Has `accept` return if no connection comes for a while.
 pub(crate) fn set_accept_timeout(listener: &TcpListener) -> io::Result<()> {
     let same = listener.try_clone()?;
     TcpStream::from(OwnedFd::from(same)).set_read_timeout(Some(Duration::from_millis(
@@ -82,7 +82,7 @@ fn wait_for_ends(rt: &(impl Wait + Clock), progress: &Progress) {
     }
 }
 
-/// Why a connection is refused, with the system's error where there is one.
+/// Why a connection is refused, with the system's error if there is one.
 struct Rejection {
     trouble: Trouble,
     error: i32,
@@ -106,13 +106,13 @@ impl From<AllocError> for Rejection {
     }
 }
 
-/// What the control thread works with.
+/// The control thread's state.
 #[derive(Drop)]
 pub(crate) struct Control<'s, K: BookName> {
     state: &'s ServerState<K>,
-    /// What hands each connection's socket to both sides of its slot.
+    /// Hands each connection's socket to both sides of its slot.
     pairing: Pairing<K>,
-    /// The second in which it was last told how the server is.
+    /// The second in which the server's status was last reported.
     told: u64,
 }
 
@@ -200,7 +200,7 @@ impl<'s, K: BookName + Send + Sync> Control<'s, K> {
     }
 
     /// Opens a slot for a connection. With I/O threads slots may be taken by connections that are gone, and that no
-    /// thread has visited yet: where there is no slot, the threads have a moment for that, and it is tried once more.
+    /// thread has visited yet: if there is no slot, the threads have a moment for that, and it is tried once more.
     fn find_slot<R: Wait + Clock>(&self, rt: &R, addr: &[u8]) -> Result<Option<u32>, ApplyError> {
         let opened = self.open_slot(rt, addr);
         if matches!(opened, Err(ApplyError::NoSlot)) && self.state.service.crews.are_few() {
@@ -239,7 +239,7 @@ impl<'s, K: BookName + Send + Sync> Control<'s, K> {
         self.begin(rt, slot, halves, peer)
     }
 
-    /// Takes a connection that came, unless it is gone, or refuses it, and has that said. After a graceful stop each is
+    /// Takes a connection that came, unless it is gone, or refuses it, and reports that. After a graceful stop each is
     /// refused.
     fn admit<E, R: Threads + Wait + Clock + Sync, G: Gate>(
         &mut self,
@@ -264,7 +264,7 @@ impl<'s, K: BookName + Send + Sync> Control<'s, K> {
         }
     }
 
-    /// Waits if no connection can be taken at present, and has that said: other connections have to be closed first.
+    /// Waits if no connection can be taken at present, and reports that: other connections have to be closed first.
     fn hold_on(&self, rt: &(impl Wait + Clock), error: &io::Error) {
         let code = error.raw_os_error().unwrap_or(0);
         let trouble = if code == EMFILE || code == ENFILE {
@@ -276,7 +276,7 @@ impl<'s, K: BookName + Send + Sync> Control<'s, K> {
         thread::sleep(rt, Duration::from_millis(ACCEPT_TIMEOUT_MS));
     }
 
-    /// Tells how the server is, once in a second.
+    /// Reports the server's status, once in a second.
     fn tell(&mut self, rt: &impl Wait, announcer: &mut Announcer<'_, impl Write>) {
         let second = self.state.host.last_second();
         if self.told != second {
@@ -339,8 +339,8 @@ impl<'s, K: BookName + Send + Sync> Control<'s, K> {
         self.take_all(scope, rt, gate, announcer)
     }
 
-    /// Serves until the server can end, and has each connection end that is left. It hands out what pairs the sides of
-    /// slots.
+    /// Serves until the server can end, and has each remaining connection end. It hands out the pairing of the slots'
+    /// sides.
     pub(crate) fn run<E, R: Threads + Wait + Clock + Sync, G: Gate>(
         mut self,
         scope: &Scope<'s, E>,

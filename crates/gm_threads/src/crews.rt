@@ -1,4 +1,4 @@
-//! The threads that serve connections: how they wait, and how they are woken. What they do then is one for both ways
+//! The threads that serve connections: how they wait, and how they are woken. Their work then is the same for both ways
 //! (`serving`).
 
 use crate::state::ServerState;
@@ -18,7 +18,7 @@ use std::sync::{Condvar, Mutex, Wait};
 use std::thread::{Scope, Threads};
 use std::time::{Clock, Duration};
 
-/// What the two threads of a slot wait at.
+/// The two threads of a slot, as other threads wake them.
 #[derive(Drop)]
 pub struct Pair {
     /// The finisher's.
@@ -43,7 +43,7 @@ impl Pair {
     }
 }
 
-/// What the threads wait at that serve connections.
+/// The threads that serve connections, as other threads wake them.
 #[derive(Drop)]
 pub enum Crews {
     /// Two for each slot, made when its first connection comes: its reader, and its finisher.
@@ -93,7 +93,7 @@ impl Crews {
         }
     }
 
-    /// Has the slot's connection read, which came to it and has this descriptor.
+    /// Has the connection that came to the slot read. It has this descriptor.
     pub(crate) fn begin(&self, slot: u32, fd: RawFd) -> io::Result<()> {
         // Modelled in models/endings.pml.
         match self {
@@ -169,7 +169,7 @@ pub(crate) fn prepare<'s, E, K: BookName + Send + Sync, G: Gate, R: Threads + Wa
     true
 }
 
-/// Has all threads leave, which have no connection any more.
+/// Has all threads leave. They have no connection any more.
 pub(crate) fn dismiss<K: BookName>(rt: &impl Wait, state: &ServerState<K>) {
     // Modelled in models/serving.h.
     state.progress.stage.rise(ServerStage::Ended as u8);
@@ -205,7 +205,7 @@ fn run_reader<'s, K: BookName, G: Gate, R: Wait + Clock>(
     }
 }
 
-/// Does what others leave of a slot's lane, until no connection comes any more.
+/// Does the work that others leave at a slot's lane, until no connection comes any more.
 fn run_finisher<'s, K: BookName, R: Wait + Clock>(
     rt: &'s R,
     state: &'s ServerState<K>,
@@ -228,7 +228,7 @@ fn run_finisher<'s, K: BookName, R: Wait + Clock>(
     }
 }
 
-/// Serves each slot once that is called, up to one whose turn was long.
+/// Serves each called slot once, up to one whose turn was long.
 fn serve_round<'s, K: BookName, G: Gate, R: Wait + Clock>(
     rt: &'s R,
     state: &'s ServerState<K>,
@@ -241,7 +241,8 @@ fn serve_round<'s, K: BookName, G: Gate, R: Wait + Clock>(
             break;
         };
         if state.visit(rt, gate, poller, call) {
-            // What came during a long turn is heard of before the next, and so waits once for the turns of the others.
+            // Events that came during a long turn are received before the next one, so they wait only once for the
+            // turns of the others.
             break;
         }
     }

@@ -10,7 +10,7 @@ use libc::net::{
 use std::net::TcpStream;
 use std::os::fd::AsRawFd;
 
-/// How often a silent peer is asked, where the time is long enough for that.
+/// How often a silent peer is asked, if the time is long enough for that.
 const QUESTIONS: u16 = 6;
 
 /// When a silent peer is asked.
@@ -24,7 +24,7 @@ struct Questions {
     count: u16,
 }
 
-/// When to ask a silent peer, so that one that vanished is found out after this time: halfway through it, and then
+/// When to ask a silent peer, so that a vanished one is found out after this time: halfway through it, and then
 /// after each twelfth of it. Below two seconds it is as with two.
 fn questions_for(seconds: u16) -> Questions
     ensures idle { 1 ≤ result.idle }

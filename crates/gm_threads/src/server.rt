@@ -24,7 +24,7 @@ use std::thread::Threads;
 use std::time::Clock;
 use std::{io, thread};
 
-/// Runs the control thread, and hands out what pairs the sides of slots. All other threads have ended then.
+/// Runs the control thread, and hands out the pairing of the slots' sides. All other threads have ended then.
 fn run_control<'x, K: BookName + Send + Sync, R: Threads + Wait + Clock + Sync, G: Gate, W: Write>(
     rt: &'x R,
     state: &'x ServerState<K>,
@@ -58,16 +58,16 @@ pub struct Service {
     /// After about how many seconds, up to 32,767, a peer is disconnected that vanished or leaves what was sent to it
     /// unread; at 0 the system decides.
     pub peer_timeout: u16,
-    /// What the threads wait at that serve connections.
+    /// The threads that serve connections, as other threads wake them.
     pub crews: Crews,
-    /// What is said while the server runs.
+    /// Writes the messages for operators while the server runs.
     pub speaker: Arc<Speaker, Global>,
-    /// What the book's tables hash with, as names and ids come from strangers.
+    /// The hash seed of the book's tables, since names and ids are untrusted input.
     pub seed: RandomState,
 }
 
-/// Serves, with a book that has a name, and settles the book in the end: `serve`,
-/// which hands back the history, the tape, the share of each desk and pen, and the account of each connection.
+/// Serves with a book that has a name, and settles the book in the end. It hands back the history, the tape, the share
+/// of each desk and pen, and the account of each connection.
 pub(crate) fn serve_book<
     K: BookName + Send + Sync,
     R: Threads + Wait + Clock + Sync,
@@ -102,9 +102,9 @@ pub(crate) fn serve_book<
 /// the end it is compared with what each connection's desk and pen were told.
 ///
 /// `Memory` comes if there is no memory for the book or for its end, and with a tape if there is none to enter the end
-/// of a connection, which stops the server; `Differs` where the tape differs from what was told, a slot is still open,
-/// or an account lacks an opening or has other limits; `Listen` where the listener fails. With a tape it answers `Ok`
-/// exactly where the two agree.
+/// of a connection, which stops the server; `Differs` if the tape differs from what was told, a slot is still open,
+/// or an account lacks an opening or has other limits; `Listen` if the listener fails. With a tape it answers `Ok`
+/// exactly if the two agree.
 pub fn serve<R: Threads + Wait + Clock + Eprint + Copy + Send + Sync + 'static, G: Gate>(
     rt: &R,
     alloc: Global,
@@ -138,8 +138,10 @@ pub fn serve<R: Threads + Wait + Clock + Eprint + Copy + Send + Sync + 'static, 
     }
 }
 
-/// As `serve`, with a service that is made already, and with the pollers of the threads that are there from the start.
-/// The announcer tells how the server is.
+/// As `serve`, for a caller that has made the service: the listener, the limits, the crews, the speaker and the seed
+/// are the service's. The pollers are those of I/O threads, none if each connection has threads of its own. The
+/// announcer reports that the server listens or is ready, and its status. Errors are those of `serve`, but a book that
+/// couldn't be settled comes in `Served`.
 pub fn serve_with<R: Threads + Wait + Clock + Sync, G: Gate, W: Write>(
     rt: &R,
     alloc: Global,

@@ -1,5 +1,5 @@
-//! How a connection is served, by whichever threads do: it is read by turns and ended, and what others leave of its
-//! lane is done.
+//! How a connection is served, by either kind of threads: it is read by turns and ended, and the work that others leave
+//! at its lane is done.
 
 ghost use Rattle.std.specs.Prelude.{◌≡◌, ℤ, true, false, is_none, IfErr};
 ghost use Rattle.gm_feeder.specs.declared.source.Answer.{Answer};
@@ -21,11 +21,11 @@ use std::sync::Wait;
 use std::sync::atomic::Ordering;
 use std::time::Clock;
 
-/// How much is dropped at a time of what a connection still sends that is to end.
+/// How many bytes at most are read and dropped at a time from a connection that is to end.
 const DROPPED: usize = 4_096;
 
-/// Reads and drops what still comes from a connection that is to end. This is done before its socket is closed, because
-/// otherwise the system forgets what the peer hasn't read yet. It says whether more may come.
+/// Reads and drops the bytes that still come from a connection that is to end. This is done before its socket is
+/// closed, because otherwise the system forgets the bytes that the peer hasn't read yet. It says whether more may come.
 pub(crate) fn discard<K: BookName>(talk: &mut Talk<K>, patience: Patience) -> bool
     requires { is_dropping talk.old.talking ≡ true }
     ensures discards { (answer : Answer) × Discards talk.old.talking answer talk.old talk.new × (result ≡ is_none (ends_by answer)) }
@@ -62,8 +62,8 @@ impl<K: BookName> ServerState<K> {
         }
     }
 
-    /// Reads once from the connection: a piece, of which a turn takes the units, or, after the session is over, bytes
-    /// that are dropped. It says whether more may come.
+    /// Reads once from the connection: a piece, whose units a turn takes, or, after the session is over, bytes that are
+    /// dropped. It says whether more may come.
     fn read<R: Wait + Clock, G: Gate>(
         &self,
         rt: &R,
@@ -100,7 +100,7 @@ impl<K: BookName> ServerState<K> {
         }
     }
 
-    /// Goes on with the session, and notifies others of what came of its units. If the session is over, it says why.
+    /// Goes on with the session, and notifies others of the effects of its units. If the session is over, it says why.
     fn step<R: Wait + Clock, G: Gate>(
         &self,
         rt: &R,
@@ -138,7 +138,7 @@ impl<K: BookName> ServerState<K> {
         }
     }
 
-    /// Does what a finisher's delivery left to do, and says what it is: a slot whose connection was let go of is
+    /// Does the work that a finisher's delivery left, and says what it was: a slot whose connection was let go of is
     /// closed.
     pub(crate) fn finish<R: Wait + Clock>(
         &self,
@@ -178,7 +178,7 @@ impl<K: BookName> ServerState<K> {
         self.count_out(rt, &answer, effects);
     }
 
-    /// Counts a connection out whose slot was closed, and notifies others of what came of that. With a tape there may
+    /// Counts out a connection whose slot was closed, and notifies others of the effects of that. With a tape there may
     /// be no memory for the closing. Then the slot stays open in the book, and the server ends.
     fn count_out<R: Wait + Clock>(
         &self,

@@ -1,9 +1,9 @@
-//! What a server is asked to be.
+//! The settings of a server.
 
 use gm_feeder::Limits;
 use gm_notes::Config;
 
-/// What a server is asked to be.
+/// The settings of a server.
 #[derive(Drop)]
 pub struct Settings {
     /// The book's settings.

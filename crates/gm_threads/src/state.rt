@@ -1,4 +1,4 @@
-//! What all threads of a server share.
+//! The state that all threads of a server share.
 
 ghost use Rattle.std.specs.Prelude.{◌≡◌, ◌<◌, ◌≤◌, Option, All, [], IfSome, IfNone, IfOk, map};
 ghost use Rattle.gm_shared.specs.Shared.{numbers_below};
@@ -19,7 +19,7 @@ use std::alloc::{AllocError, Global};
 use std::sync::{Arc, Wait};
 use std::time::{Clock, Duration};
 
-/// What all threads of a server share.
+/// The state that all threads of a server share.
 #[derive(Drop)]
 pub(crate) struct ServerState<K: BookName> {
     pub(crate) alloc: Global,
@@ -28,7 +28,7 @@ pub(crate) struct ServerState<K: BookName> {
     pub(crate) slots: Vec<Slot<K>>,
     // How many slots the book has.
     pub(crate) slot_count: u32,
-    // What its sessions share.
+    // The state that its sessions share.
     pub(crate) host: Host<K>,
     pub(crate) progress: Progress,
     ghost sized: { slot_count ≡ K.settings.slots },
@@ -36,7 +36,7 @@ pub(crate) struct ServerState<K: BookName> {
 }
 
 impl<K: BookName> ServerState<K> {
-    /// Opens a book, for the threads of a new server, and what pairs the sides of its slots. The server takes the
+    /// Opens a book for the threads of a new server, and the pairing of the sides of its slots. The server takes the
     /// service, so that no other book serves its connections.
     pub(crate) fn new(
         rt: &impl Clock,
@@ -122,7 +122,7 @@ impl<K: BookName> ServerState<K> {
         }
     }
 
-    /// Delivers to a slot that has something due, unless another thread does; or leaves that to its finisher, where it
+    /// Delivers to a slot that has something due, unless another thread does; or leaves that to its finisher, if it
     /// is late.
     fn touch<R: Wait + Clock>(&self, context: &DeliveryContext<'_, K, R>, due: Due, is_late: bool)
         requires { due.slot < K.settings.slots }
@@ -139,7 +139,7 @@ impl<K: BookName> ServerState<K> {
         self.wake_for(leftover);
     }
 
-    /// What is around a delivery of this thread.
+    /// The context of a delivery by this thread.
     pub(crate) fn delivery<'a, R>(&'a self, rt: &'a R) -> DeliveryContext<'a, K, R> {
         DeliveryContext {
             rt,
@@ -156,9 +156,9 @@ impl<K: BookName> ServerState<K> {
         leftover.settle(|slot| self.service.crews.wake(slot))
     }
 
-    /// Notifies others of what came of events, with the book's lock let go: touches the lane of each touched slot, and
-    /// delivers where nobody else does, until the time is over; then it has the finishers do so. The slot whose
-    /// connection's events they were is answered first: there may be a thousand others.
+    /// Notifies other threads of the effects of events, once the book's lock is let go: touches the lane of each
+    /// touched slot, and delivers unless another thread does, until the time is over; then it has the finishers do so.
+    /// The slot whose connection's events they were is answered first: there may be a thousand others.
     pub(crate) fn notify<R: Wait + Clock>(&self, rt: &R, own: Option<u32>, effects: &mut Effects<K>)
         ensures { IsNothing effects.new }
     {
@@ -181,7 +181,7 @@ impl<K: BookName> ServerState<K> {
         }
     }
 
-    /// Opens a slot for a connection from this address, which only a refusal leaves without one.
+    /// Opens a slot for a connection from this address. Only a refusal leaves the connection without one.
     pub(crate) fn open<R: Wait + Clock>(
         &self,
         rt: &R,
@@ -199,7 +199,7 @@ impl<K: BookName> ServerState<K> {
         opened
     }
 
-    /// Hands in the present second, if it is later than the last that was, and notifies others of what came of it.
+    /// Hands in the present second, if it is later than the last that was, and notifies others of its effects.
     pub(crate) fn update_time<R: Wait + Clock>(&self, rt: &R) {
         // Modelled in models/ticks.pml.
         let mut effects = Effects::new();

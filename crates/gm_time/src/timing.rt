@@ -1,4 +1,4 @@
-//! How long what may take at most, and what time it is. Quoted is what docs/OPERATING.md says of it.
+//! Time limits, and the clock. The quotes are from docs/OPERATING.md.
 
 ghost use Rattle.std.specs.Prelude.{◌≡◌, Some, None, IfSome, is_none};
 
@@ -9,7 +9,7 @@ use std::time::{Clock, Duration, Instant};
 /// haven't taken after two seconds is dropped."
 pub const ENDING_TIME_MS: u64 = 2_000;
 
-/// How long an end takes in all, where the server goes on: "as long as it takes some every two seconds, for up to 30
+/// How long an end takes in all, if the server goes on: "as long as it takes some every two seconds, for up to 30
 /// seconds".
 pub const MOST_ENDING_TIME_MS: u64 = 30_000;
 
@@ -28,7 +28,7 @@ pub const VISITING_TIME_MS: u64 = 10;
 /// How long a thread goes on writing to others. The slots' finishers do the rest.
 pub const DELIVERING_TIME_MS: u64 = 10;
 
-/// How long a turn may be.
+/// How long a turn may be, in microseconds.
 pub const TURN_TIME_US: u64 = 250;
 
 /// How long nothing is said on standard error after something was said.
@@ -38,7 +38,7 @@ pub const PAUSE_MS: u64 = 1_000;
 /// come".
 pub const SAID_AGAIN_MS: u64 = 60_000;
 
-/// How long the program's end waits for whoever reads what is said there.
+/// How long the program's end waits for the reader of standard error.
 pub const SAYING_TIME_MS: u64 = 2_000;
 
 /// Whether this time has passed since this was first asked; `begun` keeps when that was. If the clock can't be

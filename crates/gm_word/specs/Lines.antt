@@ -10,7 +10,7 @@ number Awake = 0
 number Asleep = 1
 number Owed = 2
 
--- 1 where the word says that a NOOP is owed, and 0 otherwise
+-- 1 if the word says that a NOOP is owed, and 0 otherwise
 abbrev pub owing : ℕ → ℕ
 owing word = if word == 2 then 1 else 0
 
@@ -18,8 +18,8 @@ owing word = if word == 2 then 1 else 0
 abbrev pub fresh_line : Line
 fresh_line = record { phase = Awake; wakes = 0; entered = 0; withdrawals = 0; looks = 0 }
 
--- What a slot's word, the book's line and the takes of its pen agree on. Each wake became one take, or one withdrawal,
--- or is still owed, and the book has entered each of these except a take that it hasn't looked for yet.
+-- A slot's word, the book's line and the takes of its pen agree. Each wake became one take, or one withdrawal, or is
+-- still owed, and the book has entered each of these except a take that it hasn't looked for yet.
 pub record Agrees (word : ℕ) (line : Line) (takes : ℕ) : Type 0 where
   pub small : word < 3
   pub phase : (word ≡ number line.phase) ⊎ ((line.phase ≡ Owed) × (word ≡ 0))
@@ -42,7 +42,7 @@ phase_for stir = Asleep
 phase_for withdraw = Owed
 phase_for look = Owed
 
--- what it may find as the word: where the NOOP is owed, the pen may have taken it
+-- the words that it may find: if the NOOP is owed, the pen may have taken it
 abbrev pub Finds : Kind → ℕ → Type 0
 Finds sleep found = found ≡ 0
 Finds wake found = found ≡ 1
@@ -54,7 +54,7 @@ Finds look found = (found ≡ 2) ⊎ (found ≡ 0)
 abbrev pub cleared : ℕ → ℕ
 cleared found = if found == 2 then 0 else found
 
--- what it leaves as the word
+-- the word that it leaves
 abbrev pub word_after : Kind → ℕ → ℕ
 word_after sleep found = 1
 word_after wake found = 2
@@ -84,7 +84,7 @@ with_withdrawal line = record line { phase = Awake; withdrawals = line.withdrawa
 abbrev pub with_take_found : Line → Line
 with_take_found line = record line { phase = Awake; entered = line.entered + 1; looks = line.looks + 1 }
 
--- what the book knows of the slot then
+-- the book's knowledge of the slot then
 abbrev pub line_after : Kind → ℕ → Line → Line
 line_after sleep found line = with_sleep line
 line_after wake found line = with_wake line

@@ -1,4 +1,4 @@
--- What callers see of a seat, and of a table that is closed.
+-- A seat, and a table that is closed, as callers see them.
 use Rattle.std.specs.Prelude.{◌≡◌, ℕ, zero, suc, ◌<◌, List, [], ◌∷◌, ◌++◌, map, length, All, Contains, slice_index}
 use Rattle.atomic_table.specs.Seated.{TableId}
 use Rattle.atomic_table.specs.declared.shared.Seat.{Seat}
@@ -37,7 +37,7 @@ fresh_pens table (suc slot) = fresh_pens table slot ++ fresh_pen table slot ∷ 
 abbrev pub with_line : ℕ → (Line → Line) → BookState → BookState
 with_line slot change book = record book { lines = at_slot slot change book.lines }
 
--- the book after a look that found no NOOP taken: the word was asked only where one is owed
+-- the book after a look that found no NOOP taken: the word was asked only if one is owed
 abbrev pub looked_at : Phase → ℕ → BookState → BookState
 looked_at Owed slot book = with_line slot with_look book
 looked_at other slot book = book
@@ -83,7 +83,7 @@ pub record SitsAtPen (seat : Seat (Unit {0}) WordView) (slot : ℕ) : Type 0 whe
   pub slot_is : count.slot ≡ slot
   pub inside : slot < seat.table_id.words
 
--- what a pen has counted
+-- the counts of a pen
 abbrev pub count_of : PenState → Count
 count_of pen = record { slot = pen.slot; takes = pen.takes; tries = pen.tries }
 

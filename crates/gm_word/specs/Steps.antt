@@ -24,11 +24,11 @@ at_slot slot change lines = slice_set lines slot (change (line_at slot lines))
 abbrev pub opening_view : ℕ → WordView
 opening_view slots = Book record { lines = replicate slots fresh_line; made = 0; back = [] }
 
--- what the book knows after a step of its own, by the word that it found
+-- the book's knowledge after a step of its own, by the word that it found
 abbrev pub book_after : Kind → ℕ → ℕ → BookPage → WordView
 book_after kind slot found page = Book record page { lines = at_slot slot (line_after kind found) page.lines }
 
--- one try more, and one take more where the NOOP was there
+-- one try more, and one take more if the NOOP was there
 abbrev pub pen_after : ℕ → Count → WordView
 pen_after found count = Pen record count { takes = count.takes + owing found; tries = count.tries + 1 }
 

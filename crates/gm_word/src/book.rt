@@ -60,7 +60,7 @@ impl BookSeat {
         self.phases[at]
     }
 
-    // Writes the word of a phase, where no pen can change the word at the same time.
+    // Writes the word of a phase, if no pen can change the word at the same time.
     fn swap_to(&mut self, table: &SleepTable, slot: u32, phase: Phase)
         requires table { self.old.table ≡ table.now }
         requires slot { slot < length self.old.lines }
@@ -104,8 +104,8 @@ impl BookSeat {
         self.swap_to(table, slot, Phase::Awake);
     }
 
-    /// Withdraws the NOOP that the slot is owed. True where it was withdrawn, false where the pen had taken it;
-    /// the slot is awake after both. One try.
+    /// Withdraws the NOOP that the slot is owed. True if it was withdrawn, false if the pen had taken it; the slot is
+    /// awake after both. One try.
     pub fn withdraw(&mut self, table: &SleepTable, slot: u32) -> bool
         requires table { self.old.table ≡ table.now }
         requires slot { slot < length self.old.lines }
@@ -121,7 +121,7 @@ impl BookSeat {
         found == OWED
     }
 
-    /// Whether the NOOP that the slot is owed was taken; the slot is awake then. False where it is owed none, or the
+    /// Whether the NOOP that the slot is owed was taken; the slot is awake then. False if it is owed none, or the
     /// word says that it is still owed.
     pub fn look(&mut self, table: &SleepTable, slot: u32) -> bool
         requires table { self.old.table ≡ table.now }

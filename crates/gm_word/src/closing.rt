@@ -39,7 +39,7 @@ fn read_words(closed: &Closed<(), Global>, words: &mut Vec<u64>)
 }
 
 /// Closes a table, once no thread shares it any more, and returns its last words, one for each slot. They agree
-/// with what the book knows and with what the pens that are handed in have taken.
+/// with the book's knowledge and with the NOOPs that the pens handed in have taken.
 ///
 /// An error means that there was no memory for the list of words. The table, the book and the pens are gone
 /// then, too.

@@ -17,9 +17,9 @@ pub fn word_rule()
     ensures reached { (words : List ℕ) (views : List WordView) → Reached words views → Keeps words views }
 {}
 
-/// How a table ends, for each pen that was handed in: each NOOP that its slot was owed was taken once, or was
-/// withdrawn once, or is still owed; and the book has entered as many takes as the pen made, except one where it
-/// still says that the slot is owed what was taken.
+/// How a table ends, for each pen that was handed in: each NOOP that its slot was owed was taken once, or was withdrawn
+/// once, or is still owed; and the book has entered as many takes as the pen made, except one if it still says that the
+/// slot is owed what was taken.
 pub fn each_wake_once()
     ensures wakes { (words : List ℕ) (lines : List Line) (pens : List PenState) → Settles words lines pens
         → All (λ pen. (line_at pen.slot lines).wakes

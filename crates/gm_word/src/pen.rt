@@ -29,8 +29,8 @@ impl Model for PenSeat {
 }
 
 impl PenSeat {
-    /// Takes the NOOP that the slot is owed: true where this call took it, false where none was owed, or
-    /// it was withdrawn first. One try, and it waits for nobody: the lock of the book isn't needed.
+    /// Takes the NOOP that the slot is owed: true if this call took it, false if none was owed, or it was withdrawn
+    /// first. One try, without waiting: the lock of the book isn't needed.
     pub fn take(&mut self, table: &SleepTable) -> bool
         requires { self.old.table ≡ table.now }
         ensures { MatchBool result (self.new ≡ record self.old { takes = self.old.takes + 1; tries = self.old.tries + 1 }) (self.new ≡ record self.old { tries = self.old.tries + 1 }) }

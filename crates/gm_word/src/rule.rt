@@ -17,7 +17,7 @@ impl TableRule<(), WordView, u32> for WordRule {
     ghost first = { opening_view };
 }
 
-/// The book writes the word of a phase: the worker goes to sleep, is woken or stirs.
+/// The book writes the word of a phase: the worker goes to sleep, is woken or wakes up by itself.
 pub(crate) struct Swap;
 
 impl Play<(), WordView> for Swap {

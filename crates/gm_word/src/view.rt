@@ -1,9 +1,9 @@
-//! What the seats at a table know. No value of these types is made: only proofs speak of them.
+//! The knowledge of the seats at a table. No value of these types is made: only proofs speak of them.
 
 use crate::phase::Phase;
 use std::collections::LinkedList;
 
-/// What the book knows of a slot.
+/// The book's knowledge of a slot.
 pub struct Line {
     pub phase: Phase,
     /// How many NOOPs the slot was owed so far.
@@ -12,7 +12,7 @@ pub struct Line {
     pub entered: u64,
     /// How many of them the book has withdrawn.
     pub withdrawals: u64,
-    /// How often the book has asked the word what became of one, by a look or by a try to withdraw it.
+    /// How often the book has asked the word for the state of one, by a look or by a try to withdraw it.
     pub looks: u64,
 }
 
@@ -24,7 +24,7 @@ pub struct Count {
     pub tries: u64,
 }
 
-/// What the book knows.
+/// The book's knowledge.
 pub struct BookPage {
     /// A line for each slot.
     pub lines: LinkedList<Line>,
@@ -34,7 +34,7 @@ pub struct BookPage {
     pub back: LinkedList<Count>,
 }
 
-/// What a seat knows.
+/// The knowledge of a seat.
 pub enum WordView {
     Book(BookPage),
     Pen(Count),
