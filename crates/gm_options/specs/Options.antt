@@ -1,4 +1,4 @@
--- What clap gets to know of the options, and what is read of its matches.
+-- The options, as clap gets to know them, and the values read from its matches.
 use Rattle.std.specs.Prelude.{◌≡◌, ◌^◌, ◌<◌, ℕ, ℤ, Bool, true, false, List, [], ◌∷◌, Option, Some, None, codes, find, option_and_then, pos}
 use Rattle.std.specs.Str.{bytes_eq}
 use Rattle.std.specs.Int.{int_max, int_min}
@@ -43,7 +43,7 @@ job_retries_rule = number_rule (codes "job-retries") (pos 0) (pos 4294967295) (c
 abbrev pub as_gearmand_rule : Rule
 as_gearmand_rule = flag_rule (codes "as-gearmand")
 
--- a command with them, behind the options that it has
+-- a command with them, after the options that it has
 abbrev pub with_server_rules : App → App
 with_server_rules app =
     with_rule (with_rule (with_rule (with_rule (with_rule app slots_rule) max_data_rule) round_robin_rule) job_retries_rule) as_gearmand_rule

@@ -130,7 +130,7 @@ pub fn with_server_options<'a>(
         .help_heading(JOBS))
 }
 
-/// What the options of every job server ask for.
+/// The values of the options that every job server has.
 #[derive(Clone, Copy, PartialEq, Eq)]
 pub struct ServerOptions {
     /// How many connections may be open at once.
@@ -173,7 +173,7 @@ pub fn short_number(matches: &ArgMatches<'_>, option: &str, default: u16) -> u16
     matches.get_one::<u16>(option).unwrap_or(default)
 }
 
-/// What the options of every job server ask for, if the command had them.
+/// The values of the options that every job server has, if the command had them.
 pub fn server_options(matches: &ArgMatches<'_>) -> ServerOptions
     ensures slots { ReadsNumber 32 (one_text (found_of matches.now) (codes "slots")) 64 result.slots }
     ensures max_data { (max : ℕ) × ReadsNumber 32 (one_text (found_of matches.now) (codes "max-data")) 67108864 max × (result.limits.max_bytes ≡ min max 1073741824) }

@@ -29,7 +29,7 @@ impl ArgumentsError {
         }
     }
 
-    /// What a program says of it.
+    /// A program's message about it.
     pub fn text(self) -> &'static str
         ensures { result.now ≡ arguments_text self }
     {

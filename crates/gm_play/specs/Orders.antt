@@ -14,12 +14,12 @@ abbrev pub cut : ℕ → List ℕ → Option (List ℕ × List ℕ)
 cut at [] = None
 cut at (b ∷ bytes) = if b == at then Some ([], bytes) else option_map (λ (halves : List ℕ × List ℕ). (b ∷ halves.0, halves.1)) (cut at bytes)
 
--- what a hexadecimal digit says; nothing where it is none
+-- the value of a hexadecimal digit; none if it isn't one
 abbrev pub SaysDigit : ℕ → Option ℕ → Type 0
 SaysDigit byte None = 16 ≤ digit_value byte
 SaysDigit byte (Some value) = (value ≡ digit_value byte) × (value < 16)
 
--- the words that were found are those of the line; where others are found, no order has as many
+-- the words that were found are those of the line; if others are found, no order has as many
 abbrev pub IsReading : List ℕ → Words → Type 0
 IsReading line (Two first second) = words_of line ≡ first.now ∷ second.now ∷ []
 IsReading line (Three first second third) = words_of line ≡ first.now ∷ second.now ∷ third.now ∷ []

@@ -1,4 +1,4 @@
--- What a player does: a front, and which slots were printed as shut.
+-- Players: a front, and which slots were printed as shut.
 use Rattle.std.specs.Prelude.{◌≡◌, ℕ, ◌<◌, Bool, false, List, ◌++◌, length, slice_index_or, Option}
 use Rattle.std.specs.Io.KnownBytes.{Appends}
 use Rattle.gm_feeder.specs.declared.units.Limits.{Limits}
@@ -28,13 +28,13 @@ pub record IsHeldSince {S : Type 0} (agrees : S → Settings → List Step → T
 abbrev pub IsReady : {S : Type 0} → (S → Settings → List Step → Type 0) → Settings → Limits → Reading → Front S → List Bool → Type 0
 IsReady agrees k limits reading front told = IsHeldSince agrees k limits (run k reading.steps) reading front told
 
--- The NOOP that slot c is owed is taken, and printed behind the rest. If it is owed none, nothing happens.
+-- The NOOP that slot c is owed is taken, and printed after the rest. If it is owed none, nothing happens.
 pub record TakesNoop {S : Type 0} (agrees : S → Settings → List Step → Type 0)
     (k : Settings) (limits : Limits) (reading : Reading) (c : ℕ) (out : List ℕ) (front : Front S) (out' : List ℕ) : Type 0 where
   pub held : IsHeld agrees k limits (record reading { steps = took_if (owes c (run k reading.steps)) c reading.steps }) front
   pub printed : out' ≡ out ++ noop_if (owes c (run k reading.steps))
 
--- What is new of slot c is printed, and the slot is drained.
+-- The news of slot c is printed, and the slot is drained.
 pub record TellsOne {S : Type 0} (agrees : S → Settings → List Step → Type 0)
     (k : Settings) (limits : Limits) (reading : Reading) (c : ℕ) (shut : Bool) (out : List ℕ) (front : Front S) (shut' : Bool)
     (out' : List ℕ) : Type 0 where
@@ -49,7 +49,7 @@ pub record TellsAll {S : Type 0} (agrees : S → Settings → List Step → Type
   pub printed : out' ≡ out ++ told k before 0 k.slots reading.steps
   pub ready : IsReady agrees k limits (record reading { steps = drained k 0 k.slots reading.steps }) front slots
 
--- A line's order is carried out, and its text is printed behind the rest.
+-- A line's order is carried out, and its text is printed after the rest.
 pub record Plays {S : Type 0} (agrees : S → Settings → List Step → Type 0)
     (k : Settings) (limits : Limits) (old : Reading) (order : Order) (out : List ℕ) (front : Front S) (told : List Bool)
     (out' : List ℕ) : Type 0 where

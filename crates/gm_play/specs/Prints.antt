@@ -1,4 +1,4 @@
--- What is printed for a script.
+-- The text printed for a script.
 use Rattle.std.specs.Prelude.{◌≡◌, ℕ, zero, suc, ◌/◌, ◌%◌, ◌==◌, Bool, true, false, not, ◌&&◌, if◌then◌else◌, List, [], ◌∷◌, ◌++◌, length, codes, decimal, Option, Some, None}
 use Rattle.std.specs.List.{flat_map}
 use Rattle.std.specs.Char.{digit_char}
@@ -37,23 +37,23 @@ refused_text refused = codes "refused " ++ decimal (apply_error_number refused) 
 abbrev pub open_text : ℕ → List ℕ
 open_text c = decimal c ++ codes " open" ++ 10 ∷ []
 
--- the slot and the bytes, where there are any
+-- the slot and the bytes, if there are any
 abbrev pub bytes_text : ℕ → List ℕ → List ℕ
 bytes_text c bytes = if length bytes == 0 then [] else decimal c ++ codes " " ++ hex_of bytes ++ 10 ∷ []
 
--- the slot and `shut`, where it became so
+-- the slot and `shut`, if it became so
 abbrev pub shut_text : ℕ → Bool → List ℕ
 shut_text c became = if became then decimal c ++ codes " shut" ++ 10 ∷ [] else []
 
 -- ---- what comes of a line
 
--- the NOOP, where one is taken
+-- the NOOP, if one is taken
 abbrev pub noop_if : Bool → List ℕ
 noop_if true = answer_packet noop
 noop_if false = []
 
--- what is printed of slot c, which was shut before or wasn't: what waits for it and the NOOP that is owed to it, and
--- whether it became shut; nothing where it isn't open
+-- the text printed of slot c, which was shut before or wasn't: the bytes that wait for it, the NOOP that is owed to it,
+-- and whether it became shut; nothing if it isn't open
 abbrev pub told_of : ℕ → Bool → Past → List ℕ
 told_of c shut now =
     if is_open c now.notes then bytes_text c (waiting c now.flow ++ noop_if (owes c now)) ++ shut_text c (is_closing c now && not shut) else []
@@ -62,11 +62,11 @@ abbrev pub took_if : Bool → ℕ → List Step → List Step
 took_if true c steps = Took c ∷ steps
 took_if false c steps = steps
 
--- what waited for slot c is taken, and then the NOOP that is owed to it, where it is open
+-- the bytes that waited for slot c are taken, and then the NOOP that is owed to it, if it is open
 abbrev pub drain_of : Settings → ℕ → List Step → List Step
 drain_of k c steps = if is_open c (run k steps).notes then took_if (owes c (run k steps)) c (Drain c ∷ steps) else steps
 
--- what is printed of the n slots from c on, one after another, since it was so before
+-- the text printed of the n slots from c on, one after another, since it was so before
 abbrev pub told : Settings → Past → ℕ → ℕ → List Step → List ℕ
 told k before c zero steps = []
 told k before c (suc n) steps = told_of c (is_closing c before) (run k steps) ++ told k before (suc c) n (drain_of k c steps)
@@ -86,7 +86,7 @@ pub record Only (old : Reading) (said text : List ℕ) (new : Reading) : Type 0 
   pub printed : text ≡ said
   pub kept : new ≡ old
 
--- the slot that was given, where one was
+-- the slot that was given, if one was
 abbrev pub said_of : Option ℕ → List ℕ
 said_of None = []
 said_of (Some c) = open_text c

@@ -1,4 +1,4 @@
--- What the lines of a script say.
+-- The lines of a script.
 use Rattle.std.specs.Prelude.{ℕ, ◌+◌, ◌*◌, ◌^◌, ◌==◌, not, ◌&&◌, nat_lt, if◌then◌else◌, List, [], ◌∷◌, length, codes, Option, Some, None}
 use Rattle.std.specs.Str.{bytes_eq}
 use Rattle.std.specs.Char.{digit_value}
@@ -35,7 +35,7 @@ slot_of word = decimal_below (2 ^ 32) 10 word
 abbrev pub moment_of : List ℕ → Option ℕ
 moment_of word = decimal_below (2 ^ 64) 20 word
 
--- the byte before these bytes, where both are there
+-- the byte before these bytes, if both are there
 abbrev pub before : Option ℕ → Option (List ℕ) → Option (List ℕ)
 before None rest = None
 before (Some byte) None = None
@@ -58,7 +58,7 @@ piece_of word = if length word == 0 then None else hex_bytes word
 
 -- ---- orders
 
--- what a line asks for
+-- the order in a line
 pub data Order : Type 0 where
   Skip : Order  -- nothing at all
   Bad : Order  -- it isn't understood

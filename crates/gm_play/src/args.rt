@@ -6,7 +6,7 @@ use gm_options::{ServerOptions, flag, number, server_options, with_server_option
 use std::alloc::{AllocError, Global};
 use std::convert::AsStr;
 
-/// What the arguments ask for.
+/// The values of the arguments.
 #[derive(Clone, Copy)]
 pub(crate) struct Args {
     pub(crate) plain: bool,
@@ -46,7 +46,7 @@ fn command<'a>(alloc: Global) -> Result<Command<'a>, AllocError> {
     with_server_options(alloc, command)
 }
 
-/// What the arguments ask for, of which the first is the program's name.
+/// Reads the arguments. The first one is the program's name.
 pub(crate) fn parse_args<S: AsStr>(alloc: Global, args: &[S]) -> Result<Args, Error> {
     let matches = command(alloc)?.try_get_matches_from(args)?;
     Ok(Args {

@@ -6,7 +6,7 @@ ghost use Rattle.gm_play.specs.declared.error.PlayError.TheVariants.{Memory};
 use std::alloc::{AllocError, AllocFailed};
 use thiserror::Error;
 
-/// Why a script isn't played to its end. What came of the lines before may be printed.
+/// Why a script isn't played to its end. The output of the lines before may be printed.
 #[derive(Clone, Copy, Debug, Drop, Error)]
 pub enum PlayError {
     /// The reader failed.

@@ -1,4 +1,4 @@
-//! What is true of every script. The function's body does nothing: its contract is the law.
+//! Laws of every script. The function's body does nothing: its contract is the law.
 
 ghost use Rattle.std.specs.Prelude.{◌≡◌, ℕ, List};
 ghost use Rattle.gm_feeder.specs.declared.units.Limits.{Limits};

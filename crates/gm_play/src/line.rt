@@ -17,7 +17,7 @@ use gm_notes::{ApplyError, JobServer};
 use gm_packet::{Response, write_response};
 use std::alloc::{AllocError, Global};
 
-/// Takes the NOOP that is owed to a slot, and appends it; where none is owed, it does nothing.
+/// Takes the NOOP that is owed to a slot, and appends it; if none is owed, it does nothing.
 fn take_noop<S: JobServer>(
     front: &mut Front<S>,
     slot: u32,
@@ -32,7 +32,7 @@ fn take_noop<S: JobServer>(
     }
 }
 
-/// Tells of a slot, if it is open: the bytes that wait for it with the NOOP that is owed to it, and whether it became
+/// Prints a slot, if it is open: the bytes that wait for it with the NOOP that is owed to it, and whether it became
 /// shut.
 fn tell_one<S: JobServer>(
     front: &mut Front<S>,
@@ -58,7 +58,7 @@ fn tell_one<S: JobServer>(
     Ok(())
 }
 
-/// Tells of each slot in turn.
+/// Prints each slot in turn.
 fn tell<S: JobServer>(
     front: &mut Front<S>,
     told: &mut [bool],
@@ -75,7 +75,7 @@ fn tell<S: JobServer>(
     Ok(())
 }
 
-/// Hands in an input, and tells what came of it.
+/// Hands in an input, and prints its outcome.
 fn hand_in<S: JobServer>(
     front: &mut Front<S>,
     told: &mut [bool],

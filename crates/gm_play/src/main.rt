@@ -1,4 +1,4 @@
-//! Plays a script on a job server: reads it from standard input, and prints what comes of it.
+//! Plays a script on a job server: reads it from standard input, and prints the outcome.
 //!
 //! A line of the script opens a connection or hands it bytes; what the server then has to say to its
 //! connections is printed in hexadecimal digits.
@@ -80,7 +80,7 @@ fn main(rt: HostRuntime) -> ExitCode {
     match run(&rt) {
         Ok(()) => ExitCode::SUCCESS,
         Err(error) => {
-            // If standard error fails too, there is nobody left to tell.
+            // A failure of standard error is ignored.
             let _ = eprintln!(rt; "gm_play: {error}");
             ExitCode::from(error.status())
         }

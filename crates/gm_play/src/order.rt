@@ -1,4 +1,4 @@
-//! What the lines of a script ask for.
+//! The orders in the lines of a script.
 
 ghost use Rattle.std.specs.Prelude.{◌≡◌, ◌^◌, ◌<◌, ◌==◌, true, ◌∷◌, length, position, IfOk, MatchOption};
 ghost use Rattle.std.specs.Char.{digit_value};
@@ -9,7 +9,7 @@ ghost use Rattle.gm_play.specs.Orders.{cut, SaysDigit, IsReading, order_view};
 use gm_packet::read_decimal;
 use std::alloc::{AllocError, Global};
 
-/// What a line asks for.
+/// The order in a line.
 #[derive(Drop)]
 pub enum Order<'a> {
     /// Nothing: the line is empty or a remark.
@@ -26,7 +26,7 @@ pub enum Order<'a> {
     Tick { now: u64 },
 }
 
-/// The words of a line, where there are as many as some order has.
+/// The words of a line, if there are as many as some order has.
 #[derive(Clone, Copy)]
 enum Words<'a> {
     Two(&'a [u8], &'a [u8]),
@@ -73,7 +73,7 @@ fn slot_of(word: &[u8]) -> Option<u32>
     u32::try_from(read_decimal(word, 10)?).ok()
 }
 
-/// What a hexadecimal digit of either case says.
+/// The value of a hexadecimal digit of either case.
 fn digit_of(byte: u8) -> Option<u8>
     ensures { SaysDigit byte result }
 {
@@ -130,7 +130,7 @@ fn piece_of(alloc: Global, word: &[u8]) -> Result<Option<Vec<u8>>, AllocError>
     hex_bytes(alloc, word)
 }
 
-/// What two words ask for.
+/// The order of two words.
 fn order_of_two<'a>(verb: &[u8], word: &'a [u8]) -> Order<'a>
     ensures { order_view result ≡ order_of_two verb.now word.now }
 {
@@ -152,7 +152,7 @@ fn order_of_two<'a>(verb: &[u8], word: &'a [u8]) -> Order<'a>
     }
 }
 
-/// What three words ask for.
+/// The order of three words.
 fn order_of_three(
     alloc: Global,
     verb: &[u8],
@@ -173,7 +173,7 @@ fn order_of_three(
     }
 }
 
-/// What a line asks for.
+/// The order in a line.
 pub fn order_of(alloc: Global, line: &[u8]) -> Result<Order<'_>, AllocError>
     ensures { IfOk result (λ order. order_view order ≡ order_of line.now) }
 {

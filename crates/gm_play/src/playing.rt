@@ -24,7 +24,7 @@ use std::io::{ErrorKind, Read, Write};
 /// The most bytes that a script may have.
 const MOST: usize = 16_777_216;
 
-/// What a script is played on.
+/// The settings of the server that a script is played on.
 #[derive(Drop)]
 pub struct PlaySettings {
     /// The server's settings.
@@ -119,7 +119,7 @@ pub fn play_on<S: JobServer + Drop, R: Read, W: Write>(
     play_lines(alloc, &mut front, &mut told, &script, writer)
 }
 
-/// Plays the script that a reader gives, and writes what comes of it.
+/// Plays the script that a reader gives, and writes the outcome.
 ///
 /// What was written before an error isn't said.
 pub fn play<R: Read, W: Write>(

@@ -69,7 +69,7 @@ pub fn put_open(out: &mut Vec<u8>, slot: u32) -> Result<(), AllocError>
     out.extend_from_slice(b" open\n")
 }
 
-/// Appends the slot and the bytes, where there are any.
+/// Appends the slot and the bytes, if there are any.
 pub fn put_bytes(out: &mut Vec<u8>, slot: u32, bytes: &[u8]) -> Result<(), AllocError>
     ensures { OnOk result (out.new.items ≡ out.old.items ++ bytes_text slot bytes.now) }
 {
@@ -82,7 +82,7 @@ pub fn put_bytes(out: &mut Vec<u8>, slot: u32, bytes: &[u8]) -> Result<(), Alloc
     out.extend_from_slice(b"\n")
 }
 
-/// Appends the slot and `shut`, where it became so.
+/// Appends the slot and `shut`, if it became so.
 pub fn put_shut(out: &mut Vec<u8>, slot: u32, became: bool) -> Result<(), AllocError>
     ensures { OnOk result (out.new.items ≡ out.old.items ++ shut_text slot became) }
 {

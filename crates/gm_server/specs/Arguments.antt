@@ -1,4 +1,4 @@
--- What arguments ask for.
+-- The values of arguments.
 use Rattle.gm_notes.specs.Settings.{Settings}
 use Rattle.gm_server.specs.declared.args.Args.{Args}
 

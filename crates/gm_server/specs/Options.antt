@@ -1,4 +1,4 @@
--- The options of `gmd`: what clap gets to know of them, and what is read of the words of a call, of which the first is
+-- The options of `gmd`: what clap gets to know of them, and what is read of the words of a call. The first word is
 -- the program's name.
 use Rattle.std.specs.Prelude.{◌≡◌, ◌||◌, ℕ, min, true, List, Some, codes, pos, unwrap_or}
 use Rattle.clap.specs.Words.{App, Row, Text, fault_of, first_of, matches_of, new_app, one_of, with_rule, Kinds}
@@ -33,15 +33,15 @@ gmd_app = with_flag_rules (with_threads_rule (with_timeout_rule (with_server_rul
 
 -- ---- words
 
--- of which kind the error is that these words get; empty where they are valid
+-- the kind of the error that these words get; empty if they are valid
 abbrev pub fault_in : List Text → Kinds
 fault_in words = fault_of gmd_app words
 
--- what clap found for the options in these words
+-- clap's matches for the options in these words
 abbrev pub found_in : List Text → List Row
 found_in words = matches_of gmd_app words
 
--- These words ask for this, where an option that isn't given has its default.
+-- These words ask for this. An option that isn't given has its default.
 pub record Reads (words : List Text) (args : Args) : Type 0 where
   pub port : ReadsNumber 16 (one_of (codes "port") (found_in words)) 4730 args.port
   pub listen : args.listen.now ≡ unwrap_or (first_of (codes "listen") (found_in words)) (codes "0.0.0.0")

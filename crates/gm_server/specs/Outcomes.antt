@@ -29,7 +29,7 @@ AskHelp words = (kind : ErrorKind) × IsAmong kind (fault_in words) × IsRequest
 abbrev pub AreInvalid : List Text → Type 0
 AreInvalid words = (kind : ErrorKind) × IsAmong kind (fault_in words) × (IsRequest kind → ⊥)
 
--- what is said of an error of this kind
+-- the outcome for an error of this kind
 abbrev pub SaysSo : ErrorKind → Result Outcome RunError → Type 0
 SaysSo kind (Ok Said) = IsRequest kind
 SaysSo kind (Ok (Served served)) = ⊥
@@ -38,14 +38,14 @@ SaysSo kind (Err (errors.Serve error)) = kind ≡ kinds.OutOfMemory
 SaysSo kind (Err errors.Output) = IsRequest kind
 SaysSo kind (Err error) = ⊥
 
--- how the program ended that only wrote to standard output, where that could be written or not
+-- how a program ended that only wrote to standard output, by whether it could be written
 abbrev pub said_as : Bool → Result Outcome RunError
 said_as true = Ok Said
 said_as false = Err errors.Output
 
 -- ---- the end
 
--- what is said of a server that served, or couldn't
+-- the summary of a server that served, or couldn't
 abbrev pub said_of : Result Ended ServeError → Result Summary ServeError
 said_of (Ok served) = summary_of served.book
 said_of (Err error) = Err error
@@ -67,7 +67,7 @@ is_of_words error = false
 abbrev pub FailsSo : Args → RunError → Type 0
 FailsSo args error = is_of_words error ≡ true → (error ≡ errors.Name) × (config_fault (asked_settings args) ≡ None → ⊥)
 
--- what is done that these arguments ask for
+-- the outcome that these arguments ask for
 abbrev pub DoesSo : Args → Result Outcome RunError → Type 0
 DoesSo args (Ok Said) = args.check ≡ true
 DoesSo args (Ok (Served served)) = (args.check ≡ false) × EndsSo (asked_settings args) args.tape args.server.limits served
@@ -75,8 +75,8 @@ DoesSo args (Err error) = FailsSo args error
 
 -- ---- all words
 
--- It only said something where that is asked for. It served as the words ask, and hands out its book as it was settled.
--- It says that the words are invalid only where they are, and refuses the name only where it can't be part of a handle.
+-- It only said something if that is asked for. It served as the words ask, and hands out its book as it was settled.
+-- It says that the words are invalid only if they are, and refuses the name only if it can't be part of a handle.
 -- Any other error but for memory comes of valid words.
 abbrev pub EndsAs : List Text → Result Outcome RunError → Type 0
 EndsAs words (Ok Said) = AskHelp words ⊎ ((args : Args) × Ask words args × (args.check ≡ true))

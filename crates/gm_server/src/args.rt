@@ -25,7 +25,7 @@ const TRIALS: &str = "Trials and questions";
 const EXAMPLE: &str = "Example: gmd --listen 127.0.0.1 --slots 1024
 It prints 'gmd: listening' when it takes connections. The line 'shutdown', sent to its port, ends it.";
 
-/// What the arguments ask for.
+/// The values of the arguments.
 #[derive(Clone, Copy)]
 pub(crate) struct Args<'a> {
     pub(crate) port: u16,
@@ -145,7 +145,7 @@ fn command<'a>(alloc: Global) -> Result<Command<'a>, AllocError>
     with_flags(alloc, with_io_threads(alloc, command)?)
 }
 
-/// What the arguments ask for, of which the first is the program's name.
+/// Reads the arguments. The first one is the program's name.
 pub(crate) fn parse_args<'a, S: AsStr>(alloc: Global, args: &'a [S]) -> Result<Args<'a>, Error>
     ensures kinds { FailsBy (fault_in (map S.text args.entry.now)) result }
     ensures reads { IfOk result (Reads (map S.text args.entry.now)) }

@@ -1,5 +1,5 @@
-//! A job server over sockets, and the program `gmd` as a function of its arguments. What the server's threads do is
-//! gm_threads', what is proved of them gm_slots' and gm_promise's.
+//! A job server over sockets, and the program `gmd` as a function of its arguments. The work of the server's threads is
+//! in gm_threads, and the theorems about them are in gm_slots and gm_promise.
 #![tactic(auto)]
 
 mod args;

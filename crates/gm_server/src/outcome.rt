@@ -73,7 +73,7 @@ impl RunError {
     }
 }
 
-/// What the program did.
+/// The outcome of the program.
 #[derive(Drop)]
 pub enum Outcome {
     /// It said what was asked for: the settings, the help or the version.
@@ -93,8 +93,7 @@ impl From<AllocError> for RunError {
     }
 }
 
-/// Says on standard error why the program ended, where that wasn't said. If that fails, there is nobody left to
-/// tell.
+/// Says on standard error why the program ended, if that wasn't said. A failure of standard error is ignored.
 pub(crate) fn report<R: Eprint + Env>(rt: &R, ended: &Result<Outcome, RunError>) {
     match ended {
         Ok(_) | Err(RunError::Arguments | RunError::Ended(_)) => {}
@@ -106,10 +105,10 @@ pub(crate) fn report<R: Eprint + Env>(rt: &R, ended: &Result<Outcome, RunError>)
 }
 
 /// The status that the program is to end with: 0 after a shutdown, a check, the help or the version; 2 for invalid
-/// arguments, also for an address beside a socket from systemd, and where it is handed other than one; 3 where it can't
-/// listen, the system gives no random seed, no descriptor or no thread, standard output can't be written, or memory ran
-/// out at the start or, with a tape, at the end of a connection or of the server; 4 where the tape differs from what
-/// the connections were told, the book still has a slot open, or a lane wasn't given each connection.
+/// arguments, also for an address in addition to a socket from systemd, and if it is handed other than one; 3 if it
+/// can't listen, the system gives no random seed, no descriptor or no thread, standard output can't be written, or
+/// memory ran out at the start or, with a tape, at the end of a connection or of the server; 4 if the tape differs from
+/// what the connections were told, the book still has a slot open, or a lane wasn't given each connection.
 pub fn status_of(ended: Result<Outcome, RunError>) -> u8
     ensures { result ≡ ended_status ended }
 {

@@ -49,7 +49,7 @@ fn print_help_or_error<W: Write>(
         return Err(RunError::Serve(ServeError::Memory));
     }
     if error.use_stderr() {
-        // If standard error fails, there is nobody left to tell.
+        // A failure of standard error is ignored.
         let _ = rt.eprint(error);
         return Err(RunError::Arguments);
     }
@@ -111,7 +111,7 @@ fn print_settings<W: Write>(args: Args<'_>, w: &mut W) -> io::Result<()> {
     w.flush()
 }
 
-/// Whether it takes a socket that is handed over, where this many are. If not, it makes one at its own address.
+/// Whether it takes a socket that is handed over, if this many are. If not, it makes one at its own address.
 fn takes_socket(sockets: Option<u32>, has_address: bool) -> Result<bool, RunError>
     ensures fails { IfErr result (λ error. is_of_words error ≡ false) }
     ensures own { (result ≡ Ok false) ↔ (sockets ≡ Some 0) }
@@ -127,7 +127,7 @@ fn takes_socket(sockets: Option<u32>, has_address: bool) -> Result<bool, RunErro
     }
 }
 
-/// What takes the connections: the socket that is handed over, or one at the address of the arguments.
+/// The listener: the socket that is handed over, or one at the address of the arguments.
 fn open_listener<R: Net<Listener = TcpListener, Stream = TcpStream> + Env + AllocGlobal>(
     rt: &R,
     args: Args<'_>,
@@ -154,7 +154,7 @@ fn open_listener<R: Net<Listener = TcpListener, Stream = TcpStream> + Env + Allo
     }
 }
 
-/// What the threads wait at that serve connections, as the arguments ask.
+/// The crews of threads that serve connections, as the arguments ask.
 fn crews_of(rt: &impl Net, alloc: Global, args: Args<'_>) -> Result<(Crews, Vec<Poller>), RunError>
     ensures { IfErr result (λ error. is_of_words error ≡ false) }
 {
@@ -169,7 +169,7 @@ fn crews_of(rt: &impl Net, alloc: Global, args: Args<'_>) -> Result<(Crews, Vec<
     }
 }
 
-/// What is said of how the server ended.
+/// The summary of how the server ended.
 fn said_of(ended: &Result<Served, ServeError>) -> Result<Summary, ServeError>
     ensures { result ≡ said_of ended.now }
 {
@@ -274,7 +274,7 @@ fn run_args<
     Ok(Outcome::Served(serve_on(rt, args, settings, w)?))
 }
 
-/// Runs the program on its arguments, of which the first is its name, with this standard output, and says how it ended.
+/// Runs the program on its arguments (the first is its name) with this standard output, and says how it ended.
 pub(crate) fn outcome_of<
     S: AsStr,
     R: Threads
@@ -301,8 +301,8 @@ pub(crate) fn outcome_of<
     ended
 }
 
-/// Runs the program on its arguments, of which the first is its name, with this standard output, and answers the status
-/// that it is to end with (`status_of`). The options are those of gearmand(8) of the same names, `--io-threads`,
+/// Runs the program on its arguments (the first is its name) with this standard output, and answers the status that it
+/// is to end with (`status_of`). The options are those of gearmand(8) of the same names, `--io-threads`,
 /// `--peer-timeout`, `--tape` and `--check`.
 pub fn run_words<
     S: AsStr,

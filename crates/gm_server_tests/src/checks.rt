@@ -4,7 +4,7 @@
 use std::fmt::Debug;
 use std::process::Abort;
 
-/// The test fails where these aren't the same, and says at what.
+/// The test fails if these aren't the same, and says at what.
 pub fn same<A: Debug + Copy, T: PartialEq + Debug>(rt: &impl Abort, at: A, got: &T, wanted: &T) {
     assert!(rt; got == wanted, "at {at:?}: {got:?}, and not {wanted:?}");
 }

@@ -17,7 +17,7 @@ use std::thread::{Threads, join};
 use std::time::{Clock, Duration};
 use std::{io, thread};
 
-/// Serves with two slots until a shutdown, and answers how many connections there were; `None` where it can't.
+/// Serves with two slots until a shutdown, and answers how many connections there were; `None` if it can't.
 fn served<R: Threads + Wait + Clock + RandomSource + Eprint + Copy + Send + Sync + 'static>(
     rt: &R,
     alloc: Global,
@@ -106,7 +106,7 @@ fn ample<R: Net<Stream = TcpStream>>(rt: &R, alloc: Global, addr: SocketAddr) ->
     Ok(client.stops()? && right)
 }
 
-/// Two echoes, of which the first waits for the second.
+/// Two echoes. The first waits for the second.
 fn hold_one(
     clock: &impl Clock,
     held: &mut Client,
@@ -120,7 +120,7 @@ fn hold_one(
     Ok(free.stops()? && first && second)
 }
 
-/// Two clients' echoes, of which the first waits for the second.
+/// Two clients' echoes. The first waits for the second.
 fn two<R: Net<Stream = TcpStream> + Clock>(
     rt: &R,
     alloc: Global,
@@ -171,7 +171,7 @@ fn wakes<R: Net<Stream = TcpStream> + Clock>(
     Ok(client.stops()? && right)
 }
 
-/// What clients do beside a server. The last of it ends the server.
+/// What clients do while a server runs. The last of it ends the server.
 #[derive(Clone, Copy)]
 enum Script<'a> {
     Echo,
@@ -193,7 +193,7 @@ fn play<R: Net<Stream = TcpStream> + Clock>(
     }
 }
 
-/// What the server did, and whether the script went right beside it.
+/// What the server did, and whether the script went right meanwhile.
 fn beside<
     R: Threads
         + Wait
@@ -221,7 +221,7 @@ fn beside<
     Ok(both)
 }
 
-/// The script goes right beside a server with this gate, which opens this many connections, holds what it is to hold,
+/// The script goes right with a server that has this gate. It opens this many connections, holds what it is to hold,
 /// and nothing for ever.
 fn goes_right<
     R: Threads

@@ -1,4 +1,4 @@
-//! Tests of a server with a gate: its connections, of which one is held at a unit. It holds nothing else. What can be
+//! Tests of a server with a gate, which holds one of its connections at a unit. It holds nothing else. What can be
 //! seen from outside is tested at the program, by the scripts of tests/.
 #![tactic(auto)]
 

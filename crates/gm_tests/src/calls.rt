@@ -26,7 +26,7 @@ fn assert_slots(rt: &impl Abort, event: Given, set: &SlotSet, slots: &[u32]) {
     same(rt, event, &set.next(from), &None);
 }
 
-/// The receipt says this, and the event touched these slots, if that was asked. The receipt has a place where a tape is
+/// The receipt says this, and the event touched these slots, if that was asked. The receipt has a place if a tape is
 /// kept.
 fn assert_answer(
     rt: &impl Abort,
@@ -168,7 +168,7 @@ fn play_both<R: RandomSource + Threads + Wait + Clock + Abort + AllocGlobal + Sy
     Ok(())
 }
 
-/// A worker that is owed a NOOP does this where the pen has taken the NOOP, and where it hasn't.
+/// A worker that is owed a NOOP does this if the pen has taken the NOOP, and if it hasn't.
 fn play_owed<R: RandomSource + Threads + Wait + Clock + Abort + AllocGlobal + Sync>(
     rt: &R,
     end: &[Call],
@@ -178,7 +178,7 @@ fn play_owed<R: RandomSource + Threads + Wait + Clock + Abort + AllocGlobal + Sy
     play_both(rt, 2, 0, &[&OWED, &TAKEN_FIRST, end], entries)
 }
 
-/// What the tape says that became of the NOOP of slot 1, where it says that the slot's desk found it.
+/// The state of the NOOP of slot 1 by the tape, if the tape has an entry of the slot's desk for it.
 fn found(entry: Option<&Entry>) -> Option<bool> {
     match entry {
         Some(
@@ -262,7 +262,7 @@ fn withdrawn_or_taken(rt: HostRuntime) -> Result<(), Fail> {
     play_owed(&rt, &GOES, 11)
 }
 
-/// Each call that can be refused is answered where there is memory, and refused where it has to be.
+/// Each call that can be refused is answered if there is memory, and refused if it has to be.
 #[test]
 fn shared_ample(rt: HostRuntime) -> Result<(), Fail> {
     play_both(&rt, 2, 0, &[&REFUSALS], 15)

@@ -1,5 +1,5 @@
-//! What tests ask of values. A call of one of these costs a proof little; an assertion in its place would be spelled
-//! out each time.
+//! The checks of values in tests. A call of one of these costs a proof little; an assertion in its place would be
+//! spelled out each time.
 
 ghost use Rattle.std.specs.Prelude.{IsTrue};
 
@@ -7,7 +7,7 @@ use gm_bytes::ByteQueue;
 use std::fmt::Debug;
 use std::process::Abort;
 
-/// The test fails where this doesn't hold.
+/// The test fails if this doesn't hold.
 pub fn must(rt: &impl Abort, holds: bool)
     ensures { IsTrue holds }
 {
@@ -22,7 +22,7 @@ pub fn assert_one_place(rt: &impl Abort, bytes: ByteQueue) {
     must(rt, rest.is_empty());
 }
 
-/// The test fails where these aren't the same, and says at what.
+/// The test fails if these aren't the same, and says at what.
 pub fn same<A: Debug + Copy, T: PartialEq + Debug>(rt: &impl Abort, at: A, got: &T, wanted: &T) {
     assert!(rt; got == wanted, "at {at:?}: {got:?}, and not {wanted:?}");
 }

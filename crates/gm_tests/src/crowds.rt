@@ -151,7 +151,7 @@ fn assert_numbers(
     Ok(())
 }
 
-/// Adds the jobs that a worker was handed, which are one for each time that it asked, but where there was none. They
+/// Adds the jobs that a worker was handed, which are one for each time that it asked, except when there was none. They
 /// were submitted one after another.
 fn add_assigned(rt: &impl Abort, bytes: &[u8], jobs: &mut Vec<u64>) -> Result<(), Fail> {
     let mut rest = bytes;
@@ -226,7 +226,7 @@ fn assert_all_created<K: BookName, R: Wait + Abort>(
     Ok(())
 }
 
-/// What slot 0 is answered.
+/// The answer to slot 0.
 fn answer<K: BookName, R: Wait + Abort>(
     rt: &R,
     room: &mut Room<K>,
@@ -331,8 +331,8 @@ fn crowd_in<K: BookName + Send + Sync, R: Threads + Wait + Clock + Abort + Sync>
     assert_places(rt, alloc, room, &running)
 }
 
-/// The same in a room of its own. What each desk and pen was told is on the tape, if one is kept, and has this
-/// many entries.
+/// The same in a room of its own. The tape, if one is kept, has the share of each desk and pen. The answer is how many
+/// entries it has.
 fn crowd<K: BookName + Send + Sync, R: Threads + Wait + Clock + Abort + Sync>(
     rt: &R,
     alloc: Global,

@@ -59,7 +59,7 @@ impl Write for FailingWriter {
 impl KnownWriter for FailingWriter {
     ghost use Rattle.std.specs.Prelude.{None, false};
 
-    // What it takes is compared.
+    // The bytes that it takes are compared.
     ghost contents = { λ _. None };
 
     ghost answers = { λ _. None };
@@ -79,10 +79,10 @@ impl Wire<()> for FailingWriter {
     }
 }
 
-/// What came of a message: whether all was written, or the fault; and the bytes that were taken.
+/// The outcome of a message: whether all was written, or the fault; and the bytes that were taken.
 type Outcome = (std::result::Result<(), WriteFault>, Vec<u8>);
 
-/// What comes of a message where there is room for this many bytes.
+/// The outcome of a message if there is room for this many bytes.
 fn written(alloc: Global, room: usize, took: bool, drained: &[u8]) -> Outcome {
     let mut writer = FailingWriter {
         room,
@@ -92,7 +92,7 @@ fn written(alloc: Global, room: usize, took: bool, drained: &[u8]) -> Outcome {
     (outcome, writer.taken)
 }
 
-/// The same where it is delivered, by sendings until it is done or over.
+/// The same if it is delivered, by sendings until it is done or over.
 fn sent(
     alloc: Global,
     room: usize,
@@ -117,7 +117,7 @@ fn sent(
     Err(Fail::from("a message without end"))
 }
 
-/// A message is written like this, and is delivered like this, where there is room for this many bytes: all of it, or
+/// A message is written like this, and is delivered like this, if there is room for this many bytes: all of it, or
 /// as many bytes as there is room for.
 fn assert_written(
     rt: &impl Abort,

@@ -1,4 +1,4 @@
-//! Growths that are refused, where the tests run with the library of tests/failing.c.
+//! Growths that are refused, when the tests run with the library of tests/failing.c.
 
 use std::alloc::Global;
 

@@ -119,7 +119,7 @@ fn assert_report(rt: &impl Abort, jobs: &Jobs) {
     }
 }
 
-// Each call that may want memory, and what comes of it.
+// Each call that may need memory, and its outcome.
 fn call_each(rt: &impl Abort, jobs: &mut Jobs) -> Result<(), AllocError> {
     make_two(rt, jobs);
     find_two(rt, jobs);

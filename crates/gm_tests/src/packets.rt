@@ -9,14 +9,14 @@ use std::alloc::{AllocError, Global};
 use std::process::Abort;
 use std::test::Fail;
 
-/// Rows of bytes and what they say.
+/// Rows of bytes and their meanings.
 macro_rules! table {
     ($kind:ident: $($($left:expr),+ => $variant:ident $({ $($field:ident: $value:expr),* })?;)*) => {
         [$(($($left,)+ $kind::$variant $({ $($field: $value),* })?)),*]
     };
 }
 
-/// What whole packets ask, every type of request once, byte for byte.
+/// The requests of whole packets, every type once, byte for byte.
 static REQUESTS: [(&[u8], Request<'static>); 24] = table! { Request:
     b"\0REQ\0\0\0\x01\0\0\0\x01f" => CanDo { function: b"f" };
     b"\0REQ\0\0\0\x02\0\0\0\x01f" => CantDo { function: b"f" };
@@ -75,7 +75,7 @@ fn cut_packet(packet: &[u8]) -> Option<(Header, &[u8])> {
     Some((read_header(&header).ok()?, data))
 }
 
-/// The packet of a request, if it fits, behind a byte that was there before.
+/// The packet of a request, if it fits, after a byte that was there before.
 fn written_request(alloc: Global, request: &Request<'_>) -> Result<Option<Vec<u8>>, AllocError> {
     if !request_fits(request) {
         return Ok(None);

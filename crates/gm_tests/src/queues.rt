@@ -11,7 +11,7 @@ use std::process::Abort;
 use std::random::RandomSource;
 use std::test::Fail;
 
-// The test fails where there is no such function.
+// The test fails if there is no such function.
 fn must_know(rt: &impl Abort, functions: &Functions, f: u32)
     ensures { f < length functions.now.names }
 {
@@ -102,7 +102,7 @@ fn names_ample(rt: HostRuntime) -> Result<(), Fail> {
     Ok(())
 }
 
-// Three jobs wait, the second is forgotten, and the first comes back behind the third.
+// Three jobs wait, the second is forgotten, and the first comes back after the third.
 fn go_round(rt: &impl Abort, functions: &mut Functions) {
     for job in 1..4 {
         push_checked(rt, functions, 0, Priority::Normal, job);
@@ -133,7 +133,7 @@ fn queues_ample(rt: HostRuntime) -> Result<(), Fail> {
     Ok(())
 }
 
-// A job waits all the time, and others come and are forgotten behind it.
+// A job waits all the time, and others come and are forgotten after it.
 fn forget_often(rt: &impl Abort, functions: &mut Functions) -> Result<(), AllocError> {
     reserve_checked(rt, functions, 0, Priority::Low)?;
     push_checked(rt, functions, 0, Priority::Low, 7);

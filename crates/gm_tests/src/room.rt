@@ -1,6 +1,6 @@
 //! A shared book with all its desks and pens, and the function that makes it, has something done there and settles it:
 //! the proof of a function that owns a room says at each way out how all its parts are dropped, so there is this one,
-//! and one more where desks go to threads, which no method of a trait can hand them to.
+//! and one more for when desks go to threads, which no method of a trait can hand them to.
 
 ghost use Rattle.std.specs.Prelude.{◌≡◌};
 
@@ -24,7 +24,7 @@ use std::thread::Threads;
 use std::time::Clock;
 
 /// The settings of a server with this many slots, which gives a job to at most this many workers; 0 is no limit. The
-/// rest is as it is where nothing else is asked for.
+/// rest is as it is if nothing else is asked for.
 pub fn config(alloc: Global, slots: u32, retries: u32) -> Result<Config, Fail> {
     Ok(Config::new(Vec::from_slice(alloc, b"gmd")?, 1, slots, 65536)?.with_retries(retries))
 }
@@ -36,7 +36,7 @@ pub struct Room<K: BookName> {
     pub desks: Vec<Desk<K>>,
     pub pens: Vec<Pen<K>>,
     pub control: Desk<K>,
-    /// What the last event touched, if that is asked.
+    /// The slots that the last event touched, if that is asked.
     pub touched: Option<SlotSet>,
     /// The place that the last receipt tells.
     pub at: Option<u64>,
@@ -45,7 +45,7 @@ pub struct Room<K: BookName> {
     growth: u32,
 }
 
-/// What is done in a room.
+/// The calls in a room.
 pub trait Scene {
     /// To how many workers a job may be given; 0 is no limit.
     fn retries(&self) -> u32 {
@@ -146,7 +146,7 @@ impl<K: BookName> Room<K> {
         }
     }
 
-    /// Hands in an event at the desk of this number, or at the control desk where no slot has it.
+    /// Hands in an event at the desk of this number, or at the control desk if no slot has it.
     pub fn try_apply<R: Wait + Abort>(
         &mut self,
         rt: &R,
@@ -162,7 +162,7 @@ impl<K: BookName> Room<K> {
         Ok(receipt)
     }
 
-    /// The same, and once more where it is refused for memory.
+    /// The same, and once more if it is refused for memory.
     pub fn apply<R: Wait + Abort>(
         &mut self,
         rt: &R,
@@ -189,7 +189,7 @@ impl<K: BookName> Room<K> {
             .drain(rt, &self.shared)
     }
 
-    /// Drains, and once more where that is refused for memory.
+    /// Drains, and once more if that is refused for memory.
     pub fn drain<R: Wait + Abort>(&mut self, rt: &R, slot: usize) -> Result<Drained, ApplyError> {
         match self.try_drain(rt, slot) {
             Err(ApplyError::Memory) => self.try_drain(rt, slot),
@@ -260,7 +260,7 @@ pub fn play_to_the_end<S: Scene, R: RandomSource + Threads + Wait + Clock + Abor
     Err(Fail::from("growths without end"))
 }
 
-/// The same where the book is settled: its tape.
+/// The same when the book is settled: its tape.
 pub fn play_settled<S: Scene, R: RandomSource + Threads + Wait + Clock + Abort + Sync>(
     rt: &R,
     alloc: Global,

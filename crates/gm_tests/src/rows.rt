@@ -1,4 +1,4 @@
-//! Tables of calls at the desks and pens of a shared book, and of what comes of them.
+//! Tables of calls at the desks and pens of a shared book, and of their outcomes.
 
 use gm_bytes::Data;
 use gm_notes::{ApplyError, Done, Event, Mode, UnitFault};
@@ -47,7 +47,7 @@ impl Given {
     }
 }
 
-/// A call, and what comes of it.
+/// A call, and its outcome.
 #[derive(Clone, Copy)]
 pub enum Call {
     /// An event is handed in at a desk: what the receipt says of it, and which slots it touches.
@@ -69,7 +69,7 @@ pub enum Call {
     },
 }
 
-/// A row of what is done, and what comes of it. If it names no desk, an event goes in at that of its slot.
+/// A row: a call, and its outcome. If it names no desk, an event goes in at that of its slot.
 macro_rules! call {
     (open $slot:literal) => {
         Call::Apply {
@@ -148,7 +148,7 @@ pub static GRABS: [Call; 3] = [
     call!(drain 1 => b"\0RES\0\0\0\x0b\0\0\0\x0bH:gmd:1\0f\0d", false),
 ];
 
-/// So it is awake, as the next job doesn't wake it. It goes to sleep beside that one, and is woken once.
+/// So it is awake, as the next job doesn't wake it. It goes to sleep while that job waits, and is woken once.
 pub static SLEEPS_AGAIN: [Call; 6] = [
     call!(packet 0, 18, b"f\0-\0e" => Some(2), [0]),
     call!(take 1 => false),
@@ -165,7 +165,7 @@ pub static GRABS_WITH_ID: [Call; 3] = [
     call!(drain 1 => b"\0RES\0\0\0\x1f\0\0\0\x0dH:gmd:1\0f\0-\0d", false),
 ];
 
-/// It disconnects, and the next connection in its slot is owed nothing, until it sleeps beside the job.
+/// It disconnects, and the next connection in its slot is owed nothing, until it sleeps while the job waits.
 pub static GOES: [Call; 9] = [
     call!(event 1, Given::Close { slot: 1 } => Running, [1]),
     call!(take 1 => false),

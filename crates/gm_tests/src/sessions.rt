@@ -103,7 +103,7 @@ const BAD_MAGIC: &[u8] = b"\0RES\0\0\0\x13\0\0\0\x13bad_magic\0bad magic";
 /// Two units and then bytes that are no request.
 const BROKEN: &[u8] = b"version\n\0REQ\0\0\0\x10\0\0\0\x02hi\0RES";
 
-/// What is answered to these.
+/// The answers to these.
 const ALL: &[u8] =
     b"OK 1.0.0\n\0RES\0\0\0\x11\0\0\0\x02hi\0RES\0\0\0\x13\0\0\0\x13bad_magic\0bad magic";
 

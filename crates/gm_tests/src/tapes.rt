@@ -1,4 +1,4 @@
-//! What settles a tape, and what doesn't.
+//! Tapes that settle, and tapes that don't.
 
 use crate::calls::assert_calls;
 use crate::checks::{assert_one_place, same};
@@ -14,7 +14,7 @@ use std::test::Fail;
 use std::thread::Threads;
 use std::time::Clock;
 
-/// What isn't given back in the end.
+/// The desk or pen, if any, that isn't given back in the end.
 #[derive(Clone, Copy, Debug, PartialEq, Eq)]
 enum Lost {
     Nothing,
@@ -84,7 +84,7 @@ fn assert_ends<R: RandomSource + Threads + Wait + Clock + Abort + AllocGlobal + 
     Ok(())
 }
 
-/// Each call is on the tape at the place that was answered, and what isn't given back is missed.
+/// Each call is on the tape at the place that was answered, and a share that isn't given back is missed.
 #[test]
 fn tape_and_shares(rt: HostRuntime) -> Result<(), Fail> {
     let places = [Some(0), Some(1)];

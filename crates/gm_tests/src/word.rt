@@ -9,7 +9,7 @@ use std::process::Abort;
 use std::test::Fail;
 use std::thread::join;
 
-// What the book does at a slot.
+// A step of the book at a slot.
 #[derive(Clone, Copy, Debug)]
 enum Step {
     Sleep,
@@ -19,7 +19,7 @@ enum Step {
     Look,
 }
 
-// What the step answers; true where it answers nothing, `None` where the phase of the slot doesn't allow it.
+// The answer of the step; true if it answers nothing, `None` if the phase of the slot doesn't allow it.
 fn turn(table: &SleepTable, book: &mut BookSeat, step: Step, slot: u32) -> Option<bool>
     requires table { book.old.table ≡ table.now }
     requires slot { slot < length book.old.lines }
@@ -63,7 +63,7 @@ impl Desk {
         })
     }
 
-    // What the book's step answers, or with no step what the pen's take does.
+    // The answer of the book's step, or without a step that of the pen's take.
     fn turn(&mut self, step: Option<Step>, slot: u32) -> Option<bool> {
         if slot >= self.slots {
             return None;
@@ -111,7 +111,7 @@ fn word_ample(rt: HostRuntime) -> Result<(), Fail> {
     Ok(())
 }
 
-// The book, and what came of the NOOPs that were owed.
+// The book, and the outcome for the NOOPs that were owed.
 #[derive(Drop)]
 struct Keeper<'a> {
     table: &'a SleepTable,
@@ -150,7 +150,7 @@ impl<'a> Keeper<'a> {
         same(rt, "takes", &takes, &self.entered);
     }
 
-    // Makes the step where the phase of the slot allows it, and counts.
+    // Makes the step if the phase of the slot allows it, and counts.
     fn turn(&mut self, step: Step, slot: u32) {
         if slot >= self.slots {
             return;

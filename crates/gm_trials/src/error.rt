@@ -15,7 +15,7 @@ pub enum TrialError {
     /// The system gave no arguments, script or seed, or took no output.
     #[error("can't read the script, or write the output")]
     Device,
-    /// Out of memory, where no growth was refused.
+    /// Out of memory, though no growth was refused by the trial.
     #[error("out of memory")]
     Memory,
     /// A step was refused that isn't to be.
@@ -29,7 +29,7 @@ pub enum TrialError {
     NotCut {
         growth: u32,
     },
-    /// What was seen isn't what was to be seen.
+    /// The outcome isn't the expected one.
     #[error("{at}: {got}, and not {wanted}")]
     Differs {
         at: u64,

@@ -52,7 +52,7 @@ fn take_units(feeder: &mut Feeder, count: u64) {
     }
 }
 
-/// The part of a piece up to its first units, where its slot took these orders before.
+/// The part of a piece up to its first units, if its slot took these orders before.
 fn up_to<'a>(
     alloc: Global,
     before: &[Order<'_>],

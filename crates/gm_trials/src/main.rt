@@ -61,7 +61,7 @@ fn main(rt: HostRuntime) -> ExitCode {
     match run(&rt) {
         Ok(()) => ExitCode::SUCCESS,
         Err(error) => {
-            // If standard error fails too, there is nobody left to tell.
+            // A failure of standard error is ignored.
             let _ = eprintln!(rt; "gm_trials: {error}");
             ExitCode::FAILURE
         }

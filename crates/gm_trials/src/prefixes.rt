@@ -70,7 +70,7 @@ fn play<S: JobServer>(
     Ok(())
 }
 
-/// What is seen of this server, where a connection sends a stream and is closed.
+/// The observable state of this server, when a connection sends a stream and is closed.
 fn seen_of<S: TrialServer>(
     alloc: Global,
     settings: &Settings,

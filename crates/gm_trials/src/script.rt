@@ -5,7 +5,7 @@ use crate::settings::number;
 use gm_front::Input;
 use std::alloc::Global;
 
-/// What is asked of a front: what a line asks for.
+/// An order of a script, for a front.
 #[derive(Drop)]
 pub enum Order<'a> {
     Open(&'a str),
@@ -26,7 +26,7 @@ impl Order<'_> {
     }
 }
 
-/// What a line asks for, if anything.
+/// The order in a line, if it has one.
 fn order_of(alloc: Global, line: &str) -> Option<Order<'_>> {
     let (verb, rest) = line.split_once(' ')?;
     match (verb, rest.split_once(' ')) {
@@ -40,7 +40,7 @@ fn order_of(alloc: Global, line: &str) -> Option<Order<'_>> {
     }
 }
 
-/// What the lines of a script ask for. Lines that ask for nothing are passed over.
+/// The orders in the lines of a script. Lines without an order are passed over.
 pub fn orders_of(alloc: Global, script: &str) -> Result<Vec<Order<'_>>, TrialError> {
     let mut orders = Vec::new(alloc);
     for line in script.split('\n') {

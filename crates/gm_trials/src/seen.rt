@@ -1,4 +1,4 @@
-//! What is seen of a front while it takes inputs, as text.
+//! The observable state of a front while it takes inputs, as text.
 
 use crate::error::TrialError;
 use gm_bytes::ByteQueue;
@@ -59,7 +59,7 @@ fn see_jobs<S: JobServer>(
     seen: &mut String,
 ) -> Result<(), TrialError> {
     for ahead in 0..JOBS {
-        // Behind the last number there is none.
+        // After the last number there is none.
         if let Some(job) = first_job.checked_add(ahead) {
             let place = front.place(job);
             writeln!(seen, "job {job}: {place:?}")?;
@@ -78,8 +78,8 @@ pub fn see<S: JobServer>(
     see_jobs(front, first_job, seen)
 }
 
-/// Hands in an input, and once more where it is refused for memory, and writes what comes of it. It answers how many
-/// units came before a cut.
+/// Hands in an input, and once more if it is refused for memory, and writes the outcome. It answers how many units came
+/// before a cut.
 pub fn hand_in<S: JobServer>(
     front: &mut Front<S>,
     input: Input<'_>,
@@ -96,7 +96,7 @@ pub fn hand_in<S: JobServer>(
     Ok(None)
 }
 
-/// Both are the same; the first line that differs is told.
+/// Both are the same; if not, the first line that differs is written.
 pub fn same(alloc: Global, at: u64, got: &str, wanted: &str) -> Result<(), TrialError> {
     if got == wanted {
         return Ok(());

@@ -26,7 +26,7 @@ fn main(rt: HostRuntime) -> ExitCode {
         Ok(words) => ExitCode::from(run_words(&rt, &words, &mut rt.stdout())),
         Err(error) => {
             let text = error.text();
-            // If standard error fails too, there is nobody left to tell.
+            // A failure of standard error is ignored.
             let _ = eprintln!(rt; "gmd: {text}");
             ExitCode::from(error.status())
         }
