@@ -181,9 +181,9 @@ fn check_submission<'a>(
     }
 }
 
-/// What a request asks: a row for each submission, with its priority and whether it is a background one; a row for each
-/// packet with a body about a job, with whether it is only for listeners with the exceptions option, and whether it
-/// ends the job; and an arm for each other.
+/// The action of each request: a row for each submission, with its priority and whether it is a background one; a row
+/// for each packet with a body about a job, with whether it is only for listeners with the exceptions option, and
+/// whether it ends the job; and an arm for each other.
 macro_rules! act_by_kind {
     ($request:ident, $bytes:ident:
         submissions { $($submit:ident: $priority:ident, $background:literal;)* }

@@ -47,14 +47,14 @@ pub record AreMessages (n c : ℕ) (since : List Entry) (takes : ℕ) (until : L
   pub drained : drains_at n c until ≡ drains_in messages
   pub taken : takes_after ≡ takes + takes_in messages + lost
 
--- What was written to the connection of the n-th opening, and then the rest, is what the messages send: each byte once,
--- in order.
+-- The bytes written to the connection of the n-th opening, and then the rest, are those that the messages send: each
+-- byte once, in order.
 pub record IsWritten (n c : ℕ) (since : List Entry) (takes : ℕ) (until : List Entry) (takes_after lost : ℕ) (written rest : List ℕ) : Type 0 where
   pub messages : List DrainedMessage
   pub are : AreMessages n c since takes until takes_after lost messages
   pub whole : sent_by messages ≡ written ++ rest
 
--- A prefix of what the messages send was written.
+-- A prefix of the bytes that the messages send was written.
 abbrev pub IsPrefixWritten : ℕ → ℕ → List Entry → ℕ → List Entry → ℕ → List ℕ → Type 0
 IsPrefixWritten n c since takes until takes_after written = (rest : List ℕ) × (lost : ℕ) × IsWritten n c since takes until takes_after lost written rest
 

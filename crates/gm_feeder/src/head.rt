@@ -28,8 +28,8 @@ pub(crate) enum Head {
     Incomplete { scanned: usize },
 }
 
-// The first twelve bytes. Those that are still to come are taken from the header of an empty packet, so that
-// what is wrong is wrong with the bytes that came.
+// The first twelve bytes. Those that are still to come are taken from the header of an empty packet, so that a fault is
+// one of the bytes that came.
 fn filled_header(bytes: &[u8]) -> [u8; HEADER_LEN]
     ensures { result ≡ filled_header bytes.now }
 {

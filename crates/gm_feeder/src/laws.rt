@@ -61,8 +61,8 @@ pub fn fault_stays()
         → IsFaultOf limits rest fault → IsFaultOf limits (rest ++ more) fault }
 {}
 
-/// Once a feeder gives no more units, those that it gave and the bytes that it still holds are the spelling of
-/// what was fed, in whichever pieces, and there is no other.
+/// Once a feeder gives no more units, those that it gave and the bytes that it still holds are the spelling of the
+/// bytes fed, in whichever pieces, and there is no other.
 pub fn any_pieces()
     ensures spelled { (old new : Stream) (events : List Event)
         → Runs old events new → BeginsNoUnit new.limits new.pending

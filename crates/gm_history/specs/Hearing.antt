@@ -24,8 +24,8 @@ AllOpen (c ∷ slots) notes = (is_open c notes ≡ true) × AllOpen slots notes
 abbrev pub listens : ℕ → ℕ → List Note → ℕ
 listens c n notes = length (filter (λ d. c == d) (listeners n notes))
 
--- what the worker of job n asks to be passed on to a listener, by whether that gets exceptions; with as_gearmand one
--- that gets none gets WORK_FAIL instead
+-- the packet that the worker of job n asks to be passed on to a listener, by whether the listener gets exceptions; with
+-- as_gearmand a listener that gets none gets WORK_FAIL instead
 abbrev pub passed_on : Settings → Bool → ℕ → Kind → List (List ℕ) → Option Answer
 passed_on k wants n WorkStatus a = Some (work_status (handle k n) (second a) (third a))
 passed_on k wants n WorkData a = Some (work_data (handle k n) (second a))

@@ -27,7 +27,7 @@ pub record Live : Type 0 where
   pub report : Option (List ℕ × List ℕ)
   pub listeners : List ℕ
 
--- two texts that packets can carry one behind the other: the first without NUL, and both of at most 1,073,741,824 bytes
+-- two texts that packets can carry one after the other: the first without NUL, and both of at most 1,073,741,824 bytes
 pub record AreCarried (first last : List ℕ) : Type 0 where
   pub plain : has_nul first ≡ false
   pub sized : length first + length last ≤ 1073741824

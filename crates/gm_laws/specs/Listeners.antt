@@ -67,8 +67,8 @@ AreToldInOrder k kind n before after =
     (newer : List Flow) × (after.flow ≡ newer ++ before.flow) × (slots_told newer ≡ told_in_order k kind (listeners n before.notes) before.notes)
 
 -- A report by the slot where a job runs is passed on to each slot as often as the slot listens, and nothing else is
--- queued. What is passed on depends on whether the slot gets exceptions. A report is a request that passes something on
--- to slots that get exceptions.
+-- queued. The packet passed on depends on whether the slot gets exceptions. A report is a request that passes something
+-- on to slots that get exceptions.
 abbrev pub WhatWorkersSayIsPassedOn : Type 0
 WhatWorkersSayIsPassedOn = (k : Settings) (steps : List Step) (worker n number : ℕ) (bytes : List ℕ) (asked : Asked) (report : Answer) →
     let before = run k steps in

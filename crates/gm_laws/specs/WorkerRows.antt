@@ -102,7 +102,7 @@ OnlyAbleWake =
     connect ∷ connect ∷ connect ∷ can_do 1 "f" ∷ pre_sleep 1 ∷ cant_do 1 "f" ∷ can_do 2 "f" ∷ pre_sleep 2 ∷ reset_abilities 2
     ∷ can_do 0 "f" ∷ pre_sleep 0 ∷ submit_job 0 "f" "a" "1" ∷ []) (0 ∷ [])
 
--- A worker that goes to sleep beside work is woken at once
+-- A worker that goes to sleep while a job waits that it can do is woken at once
 abbrev pub WorkBeforeSleep : Type 0
 WorkBeforeSleep =
     let steps =
@@ -161,7 +161,7 @@ StillOwed =
     connect ∷ connect ∷ connect ∷ can_do 1 "f" ∷ pre_sleep 1 ∷ can_do 2 "f" ∷ submit_job_bg 0 "f" "a" "1" ∷ grab_job 2
     ∷ pre_sleep 1 ∷ []) (1 ∷ [])
 
--- after its NOOP is withdrawn a worker is awake and owed none, until it goes to sleep beside work
+-- after its NOOP is withdrawn a worker is awake and owed none, until it goes to sleep while a job waits
 abbrev pub WithdrawnNoop : Type 0
 WithdrawnNoop =
     let steps =

@@ -91,7 +91,7 @@ pub fn workers()
     ensures all_wake { AllWake }
     // A worker that can no longer do the function isn't woken; a submitter that can is.
     ensures only_able_wake { OnlyAbleWake }
-    // A worker that goes to sleep beside work is woken at once.
+    // A worker that goes to sleep while a job waits that it can do is woken at once.
     ensures work_before_sleep { WorkBeforeSleep }
     // A sleeping worker that adds a function with a waiting job is woken.
     ensures work_before_ability { WorkBeforeAbility }
@@ -105,7 +105,7 @@ pub fn workers()
     ensures stale_noop { StaleNoop }
     // An owed NOOP stays owed, even if no job waits any more and the worker goes to sleep again.
     ensures still_owed { StillOwed }
-    // After its NOOP is withdrawn a worker is awake and owed none, until it goes to sleep beside work.
+    // After its NOOP is withdrawn a worker is awake and owed none, until it goes to sleep while a job waits.
     ensures withdrawn_noop { WithdrawnNoop }
     // A NOOP is taken once; no sleeping worker is owed one, and no slot that isn't open.
     ensures taken_noop { TakenNoop }

@@ -126,7 +126,7 @@ pub record AreInOrder (first : ℕ) (notes : List Note) : Type 0 where
   pub rising : reverse (made notes) ≡ numbers_from first (length (made notes))
   pub small : first + length (made notes) ≤ 2 ^ 64
 
--- what of the notes is kept, and what is paid for: all that is there, and all that may come without memory
+-- the invariant of the notes, and that the memory is there for all of them, and for all that may come without memory
 pub record IsPaid (slots first : ℕ) (notes : List Note) : Type 0 where
   pub fit : AllFit slots notes
   pub numbered : AreNumbered first notes

@@ -98,7 +98,7 @@ fn play_lines<S: JobServer, W: Write>(
 
 /// Plays the script that a reader gives on a server with this many slots, and writes the results.
 ///
-/// The server is to have taken no step yet. What was written before an error isn't said.
+/// The server is to have taken no step yet. The contract doesn't say how much was written before an error.
 pub fn play_on<S: JobServer + Drop, R: Read, W: Write>(
     alloc: Global,
     server: S,
@@ -121,7 +121,7 @@ pub fn play_on<S: JobServer + Drop, R: Read, W: Write>(
 
 /// Plays the script that a reader gives, and writes the outcome.
 ///
-/// What was written before an error isn't said.
+/// The contract doesn't say how much was written before an error.
 pub fn play<R: Read, W: Write>(
     alloc: Global,
     seed: RandomState,

@@ -9,10 +9,10 @@ use std::io;
 use std::io::{Cursor, Write};
 use std::sync::Wait;
 
-/// How long the line is at most that says how the service is.
+/// How many bytes the status line has at most.
 const STATUS: usize = 192;
 
-/// How a server is.
+/// The status of a server.
 #[derive(Clone, Copy, Debug, PartialEq, Eq)]
 pub(crate) struct Report {
     /// How many connections are open.

@@ -90,7 +90,7 @@ impl Speaker {
         remarks.timed_out = remarks.timed_out.saturating_add(1);
     }
 
-    /// How a server is that has this many connections open, of this many slots.
+    /// The status of a server that has this many connections open, of this many slots.
     pub(crate) fn report(&self, rt: &impl Wait, connections: u64, slots: u32) -> Report {
         let remarks = self.remarks.lock(rt);
         Report {

@@ -1,5 +1,5 @@
-//! What tests ask of values. A call of this costs a proof little; an assertion in its place would be spelled out each
-//! time.
+//! The checks of values in tests. A call of this costs a proof little; an assertion in its place would be spelled out
+//! each time.
 
 use std::fmt::Debug;
 use std::process::Abort;

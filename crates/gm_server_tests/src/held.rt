@@ -132,7 +132,7 @@ fn two<R: Net<Stream = TcpStream> + Clock>(
     hold_one(rt, &mut held, &mut free, hold)
 }
 
-/// What follows a job in its piece: `count` of these units, each with an answer of `answer` bytes.
+/// The units that follow a job in its piece: `count` of these, each with an answer of `answer` bytes.
 #[derive(Clone, Copy)]
 struct Sleeper<'a> {
     unit: &'a [u8],
@@ -140,7 +140,7 @@ struct Sleeper<'a> {
     answer: usize,
 }
 
-/// Sends a job for `f` and what follows it, in one piece.
+/// Sends a job for `f` and the units that follow it, in one piece.
 fn send_piece(client: &mut Client, behind: Sleeper<'_>) -> io::Result<()> {
     let mut piece = joined(client.alloc(), &[b"\0REQ\0\0\0\x12\0\0\0\x03f\0\0"])?;
     for _ in 0..behind.count {
@@ -171,7 +171,7 @@ fn wakes<R: Net<Stream = TcpStream> + Clock>(
     Ok(client.stops()? && right)
 }
 
-/// What clients do while a server runs. The last of it ends the server.
+/// The clients' script while a server runs. The last of it ends the server.
 #[derive(Clone, Copy)]
 enum Script<'a> {
     Echo,
@@ -193,7 +193,7 @@ fn play<R: Net<Stream = TcpStream> + Clock>(
     }
 }
 
-/// What the server did, and whether the script went right meanwhile.
+/// The server's outcome, and whether the script went right meanwhile.
 fn beside<
     R: Threads
         + Wait

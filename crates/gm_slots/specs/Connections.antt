@@ -92,7 +92,7 @@ AreSent k log c takes (p ∷ older) = (takes ≡ p.takes_after) × IsSent k log 
 
 -- ---- one socket
 
--- what was read at an opening came through the socket to which was written at that opening; or nothing was read
+-- the bytes read at an opening came through the socket to which was written at that opening; or nothing was read
 abbrev pub FitsSocket : Option ℤ → ℤ → Type 0
 FitsSocket None written = Unit {0}
 FitsSocket (Some read) written = read ≡ written
@@ -103,7 +103,7 @@ FitSockets [] [] = Unit {0}
 FitSockets (heard ∷ hs) (p ∷ ps) = FitsSocket heard.socket p.socket × FitSockets hs ps
 FitSockets hs ps = ⊥
 
--- Each connection that is closed went through one socket. What is newer was written to one that isn't closed yet.
+-- Each connection that is closed went through one socket. The newer accounts are of one that isn't closed yet.
 pub record WentThroughOne (heard : List Heard) (past : List Past) : Type 0 where
   pub newer : List Past
   pub older : List Past
@@ -112,10 +112,10 @@ pub record WentThroughOne (heard : List Heard) (past : List Past) : Type 0 where
 
 -- ---- the law
 
--- What was read from each connection of slot c that is closed is handed in. There is one for each opening of the slot,
--- but for the last one while the slot is open. What was written to each that is gone was sent to it, and for all of
--- these together this number of NOOPs was taken. What was read and what was written at one opening went through one
--- socket.
+-- The bytes read from each connection of slot c that is closed are handed in. There is one for each opening of the
+-- slot, except for the last one while the slot is open. The bytes written to each that is gone were sent to it, and for
+-- all of these together this number of NOOPs was taken. The bytes read and those written at one opening went through
+-- one socket.
 pub record AreServed (k : Settings) (limits : Limits) (log : List Entry) (c takes : ℕ) (heard : List Heard) (past : List Past) : Type 0 where
   pub handed_in : AreHandedIn k limits log c heard
   pub all : openings c log ≡ length heard + (if is_open c (past_of k log).notes then 1 else 0)

@@ -164,7 +164,7 @@ fn writes_each_response(rt: HostRuntime) -> Result<(), Fail> {
     Ok(())
 }
 
-/// What data of a packet type ask: data that are no request of their type, data that look odd and are right, and
+/// The requests in data of a packet type: data that are no request of their type, data that look odd and are right, and
 /// types that no client sends or that nobody knows, whatever the data.
 static READINGS: [(u32, &[u8], Result<Request<'static>, RequestFault>); 51] = [
     (1, b"f\0\0", Err(RequestFault::BadArguments)),

@@ -4,16 +4,16 @@ ghost use Rattle.std.specs.Prelude.{◌≡◌, Some, None, IfSome, is_none};
 
 use std::time::{Clock, Duration, Instant};
 
-/// How long a connection that is to end has for what it is still to be sent, while its peer takes nothing, and then for
-/// what its peer still sends, which is read and dropped. So long it has in all from when the server stops: "What they
-/// haven't taken after two seconds is dropped."
+/// How long a connection that is to end has for the bytes that it is still to be sent, while its peer takes nothing,
+/// and then for the bytes that its peer still sends, which are read and dropped. Once the server stops, this is its
+/// time in all: "What they haven't taken after two seconds is dropped."
 pub const ENDING_TIME_MS: u64 = 2_000;
 
 /// How long an end takes in all, if the server goes on: "as long as it takes some every two seconds, for up to 30
 /// seconds".
 pub const MOST_ENDING_TIME_MS: u64 = 30_000;
 
-/// After how long a connection is looked at again that isn't done with, and how long a write waits that may wait.
+/// After how long an unfinished connection is looked at again, and how long a write waits that may wait.
 pub const AGAIN_MS: u64 = 250;
 
 /// How long an I/O thread waits for events at most, as a waking may fail.
@@ -31,10 +31,10 @@ pub const DELIVERING_TIME_MS: u64 = 10;
 /// How long a turn may be, in microseconds.
 pub const TURN_TIME_US: u64 = 250;
 
-/// How long nothing is said on standard error after something was said.
+/// How long nothing is written to standard error after a message was.
 pub const PAUSE_MS: u64 = 1_000;
 
-/// After how long it is said again that workers grab jobs in vain: "said once, and once a minute while such packets
+/// After how long it is reported again that workers grab jobs in vain: "said once, and once a minute while such packets
 /// come".
 pub const SAID_AGAIN_MS: u64 = 60_000;
 
@@ -42,7 +42,7 @@ pub const SAID_AGAIN_MS: u64 = 60_000;
 pub const SAYING_TIME_MS: u64 = 2_000;
 
 /// Whether this time has passed since this was first asked; `begun` keeps when that was. If the clock can't be
-/// read, they have.
+/// read, it has.
 pub fn has_passed(rt: &impl Clock, begun: &mut Option<Instant>, time: Duration) -> bool
     ensures keeps { IfSome begun.old (λ first. begun.new ≡ Some first) }
     ensures first { begun.old ≡ None → result ≡ is_none begun.new }
