@@ -19,9 +19,6 @@ use std::alloc::{AllocError, AllocFailed, Global};
 use std::hash::RandomState;
 use std::marker::Model;
 
-#[cfg(test)]
-mod tests;
-
 /// Why a new function is refused. A refusal changes nothing.
 #[derive(Clone, Copy, Debug, PartialEq, Eq)]
 pub enum MentionError {

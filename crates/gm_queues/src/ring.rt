@@ -229,10 +229,4 @@ impl Ring {
     {
         (self.reserved - self.waiting) as u64
     }
-
-    // The entries, the cleared ones included.
-    #[cfg(test)]
-    pub(crate) fn entries(&self) -> &VecDeque<Option<u64>> {
-        &self.entries
-    }
 }

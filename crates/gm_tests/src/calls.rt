@@ -13,7 +13,6 @@ use std::process::Abort;
 use std::random::RandomSource;
 use std::sync::Wait;
 use std::test::Fail;
-use std::thread::Threads;
 use std::time::Clock;
 
 /// The slots of the set are these, in their order.
@@ -115,7 +114,7 @@ impl<'a> Scene for Calls<'a> {
         self.retries
     }
 
-    fn play<K: BookName + Send + Sync, R: Threads + Wait + Clock + Abort + Sync>(
+    fn play<K: BookName, R: Wait + Clock + Abort>(
         &mut self,
         rt: &R,
         room: &mut Room<K>,
@@ -134,7 +133,7 @@ impl<'a> Scene for Calls<'a> {
 
 /// The calls are made in a new book with this many slots, by both calls of a desk. It gives the numbers of entries on
 /// the book's tape, which is settled.
-fn play_calls<R: RandomSource + Threads + Wait + Clock + Abort + AllocGlobal + Sync>(
+fn play_calls<R: RandomSource + Wait + Clock + Abort + AllocGlobal>(
     rt: &R,
     slots: u32,
     retries: u32,
@@ -155,7 +154,7 @@ fn play_calls<R: RandomSource + Threads + Wait + Clock + Abort + AllocGlobal + S
 }
 
 /// Without a tape there are no entries, and with one this many.
-fn play_both<R: RandomSource + Threads + Wait + Clock + Abort + AllocGlobal + Sync>(
+fn play_both<R: RandomSource + Wait + Clock + Abort + AllocGlobal>(
     rt: &R,
     slots: u32,
     retries: u32,
@@ -169,7 +168,7 @@ fn play_both<R: RandomSource + Threads + Wait + Clock + Abort + AllocGlobal + Sy
 }
 
 /// A worker that is owed a NOOP does this if the pen has taken the NOOP, and if it hasn't.
-fn play_owed<R: RandomSource + Threads + Wait + Clock + Abort + AllocGlobal + Sync>(
+fn play_owed<R: RandomSource + Wait + Clock + Abort + AllocGlobal>(
     rt: &R,
     end: &[Call],
     entries: usize,
@@ -201,7 +200,7 @@ fn found(entry: Option<&Entry>) -> Option<bool> {
 
 /// The worker asks for a job, which the receipt tells to be entry 6. Before that its NOOP is entered, as taken or as
 /// withdrawn.
-fn assert_found<R: RandomSource + Threads + Wait + Clock + Abort + AllocGlobal + Sync>(
+fn assert_found<R: RandomSource + Wait + Clock + Abort + AllocGlobal>(
     rt: &R,
     parts: &[&[Call]],
     taken: bool,

@@ -1,18 +1,13 @@
 //! Tests of the public calls of the library crates: vectors and worked cases from the protocol; a shared book, by
-//! worked cases over its desks and pens and by threads that work at it at once; sessions, and what a writer writes. It
-//! holds nothing else.
+//! worked cases over its desks and pens; sessions, and what a writer writes. It holds nothing else.
 #![tactic(auto)]
 
-#[cfg(test)]
-mod answers;
 #[cfg(test)]
 mod calls;
 #[cfg(test)]
 mod checks;
 #[cfg(test)]
 mod conns;
-#[cfg(test)]
-mod crowds;
 #[cfg(test)]
 mod devices;
 #[cfg(test)]

@@ -1,6 +1,6 @@
-//! A shared book with all its desks and pens, and the function that makes it, has something done there and settles it:
-//! the proof of a function that owns a room says at each way out how all its parts are dropped, so there is this one,
-//! and one more for when desks go to threads, which no method of a trait can hand them to.
+//! A shared book with all its desks and pens, and the function that makes it, has something done there and settles it.
+//! There is only this one, because the proof of a function that owns a room says at each way out how all its parts are
+//! dropped.
 
 ghost use Rattle.std.specs.Prelude.{◌≡◌};
 
@@ -20,12 +20,11 @@ use std::process::Abort;
 use std::random::RandomSource;
 use std::sync::Wait;
 use std::test::Fail;
-use std::thread::Threads;
 use std::time::Clock;
 
 /// The settings of a server with this many slots, which gives a job to at most this many workers; 0 is no limit. The
 /// rest is as it is if nothing else is asked for.
-pub fn config(alloc: Global, slots: u32, retries: u32) -> Result<Config, Fail> {
+fn config(alloc: Global, slots: u32, retries: u32) -> Result<Config, Fail> {
     Ok(Config::new(Vec::from_slice(alloc, b"gmd")?, 1, slots, 65536)?.with_retries(retries))
 }
 
@@ -52,7 +51,7 @@ pub trait Scene {
         0
     }
 
-    fn play<K: BookName + Send + Sync, R: Threads + Wait + Clock + Abort + Sync>(
+    fn play<K: BookName, R: Wait + Clock + Abort>(
         &mut self,
         rt: &R,
         room: &mut Room<K>,
@@ -60,7 +59,7 @@ pub trait Scene {
 }
 
 /// Hands in an event, which isn't too large. A set becomes the slots that it touched.
-pub fn apply<K: BookName, R: Wait + Abort>(
+fn apply<K: BookName, R: Wait + Abort>(
     rt: &R,
     shared: &Shared<K>,
     desk: &mut Desk<K>,
@@ -199,7 +198,7 @@ impl<K: BookName> Room<K> {
 }
 
 /// Plays in a room with this book, which is settled then.
-fn play_at<K: BookName + Send + Sync, S: Scene, R: Threads + Wait + Clock + Abort + Sync>(
+fn play_at<K: BookName, S: Scene, R: Wait + Clock + Abort>(
     rt: &R,
     alloc: Global,
     blank: Blank,
@@ -218,7 +217,7 @@ fn play_at<K: BookName + Send + Sync, S: Scene, R: Threads + Wait + Clock + Abor
 }
 
 /// A new book with this many slots, with a tape or without.
-pub fn blank<R: RandomSource>(
+fn blank<R: RandomSource>(
     rt: &R,
     alloc: Global,
     slots: u32,
@@ -239,7 +238,7 @@ fn entries(outcome: &Result<Vec<Entry>, u8>) -> Result<usize, u8> {
 
 /// Plays in a new room with this many slots, with a tape or without, and says what the book's settling answers. It
 /// plays again with each growth refused that the scene lets be refused, and the answer has to be the same.
-pub fn play_to_the_end<S: Scene, R: RandomSource + Threads + Wait + Clock + Abort + Sync>(
+pub fn play_to_the_end<S: Scene, R: RandomSource + Wait + Clock + Abort>(
     rt: &R,
     alloc: Global,
     slots: u32,
@@ -261,7 +260,7 @@ pub fn play_to_the_end<S: Scene, R: RandomSource + Threads + Wait + Clock + Abor
 }
 
 /// The same when the book is settled: its tape.
-pub fn play_settled<S: Scene, R: RandomSource + Threads + Wait + Clock + Abort + Sync>(
+pub fn play_settled<S: Scene, R: RandomSource + Wait + Clock + Abort>(
     rt: &R,
     alloc: Global,
     slots: u32,

@@ -12,7 +12,6 @@ use std::process::Abort;
 use std::random::RandomSource;
 use std::sync::Wait;
 use std::test::Fail;
-use std::thread::Threads;
 use std::time::Clock;
 
 const LIMITS: Limits = Limits {
@@ -31,7 +30,7 @@ struct OneSession<'a> {
 }
 
 impl<'a> Scene for OneSession<'a> {
-    fn play<K: BookName + Send + Sync, R: Threads + Wait + Clock + Abort + Sync>(
+    fn play<K: BookName, R: Wait + Clock + Abort>(
         &mut self,
         rt: &R,
         room: &mut Room<K>,
@@ -59,7 +58,7 @@ impl<'a> Scene for OneSession<'a> {
 }
 
 /// A session at a new book with one slot ends like this, with these bytes waiting and this many entries on the tape.
-fn assert_session_with<R: RandomSource + Threads + Wait + Clock + Abort + AllocGlobal + Sync>(
+fn assert_session_with<R: RandomSource + Wait + Clock + Abort + AllocGlobal>(
     rt: &R,
     tape: TapeMode,
     is_open: bool,
@@ -81,7 +80,7 @@ fn assert_session_with<R: RandomSource + Threads + Wait + Clock + Abort + AllocG
 }
 
 /// The same with a tape, which has this many entries, and without one.
-fn assert_session<R: RandomSource + Threads + Wait + Clock + Abort + AllocGlobal + Sync>(
+fn assert_session<R: RandomSource + Wait + Clock + Abort + AllocGlobal>(
     rt: &R,
     is_open: bool,
     reader: FailingReader<'_>,

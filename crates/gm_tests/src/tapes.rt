@@ -11,7 +11,6 @@ use std::process::Abort;
 use std::random::RandomSource;
 use std::sync::Wait;
 use std::test::Fail;
-use std::thread::Threads;
 use std::time::Clock;
 
 /// The desk or pen, if any, that isn't given back in the end.
@@ -50,7 +49,7 @@ fn echo_once<K: BookName, R: Wait + Abort>(
 }
 
 impl Scene for Echo {
-    fn play<K: BookName + Send + Sync, R: Threads + Wait + Clock + Abort + Sync>(
+    fn play<K: BookName, R: Wait + Clock + Abort>(
         &mut self,
         rt: &R,
         room: &mut Room<K>,
@@ -63,7 +62,7 @@ impl Scene for Echo {
 }
 
 /// The receipts tell these places, and that the server runs, and this many entries are settled in the end.
-fn assert_ends<R: RandomSource + Threads + Wait + Clock + Abort + AllocGlobal + Sync>(
+fn assert_ends<R: RandomSource + Wait + Clock + Abort + AllocGlobal>(
     rt: &R,
     tape: TapeMode,
     lost: Lost,
@@ -103,7 +102,7 @@ fn tape_and_shares(rt: HostRuntime) -> Result<(), Fail> {
 struct Goes;
 
 impl Scene for Goes {
-    fn play<K: BookName + Send + Sync, R: Threads + Wait + Clock + Abort + Sync>(
+    fn play<K: BookName, R: Wait + Clock + Abort>(
         &mut self,
         rt: &R,
         room: &mut Room<K>,
