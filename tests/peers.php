@@ -1,6 +1,7 @@
 <?php
 // What PHP's workers and clients of tests/peers do, with the extension's own options: peers.php PORT WHAT [NUMBER]. A worker prints a line
-// for each job, and goes on until it is ended; a client prints what it got. NUMBER is a worker's time limit.
+// for each job, and goes on until it is ended, or with WHAT uncaught until its function throws; a client prints what it got. NUMBER is a
+// worker's time limit.
 require __DIR__ . '/../packaging/demo/work.php';
 [, $port, $what] = $argv;
 $number = (int) ($argv[3] ?? 0);
@@ -22,7 +23,7 @@ function reverse(GearmanJob $job): ?string
 {
     global $what;
     echo $job->functionName(), ' ', $job->workload(), "\n";
-    if ($job->workload() === 'bad' && $what === 'throws') {
+    if ($job->workload() === 'bad' && ($what === 'throws' || $what === 'uncaught')) {
         throw new Exception('boom');
     }
     if ($job->workload() === 'bad' && $what === 'sends') {
@@ -68,6 +69,9 @@ if ($what === 'do') {
     }
     if ($what === 'leaves') {
         $worker->unregister('f');
+    }
+    while ($what === 'uncaught') {
+        @$worker->work();
     }
     work($worker);
 }

@@ -197,6 +197,16 @@ def php_throws(port, kind):
     to_callers(port, kind, (PHP, "throws"), "Unable to add worker function", "complete doog\n")
 
 
+def php_uncaught(port, _kind):
+    """work() throws what its function threw. A worker that doesn't catch that ends, at both servers, and its job is over."""
+    with worker(port, PHP, "uncaught") as process:
+        client = Client(port)
+        handle = submitted(client, data=b"bad")
+        same("what its client gets", heard(client), (WORK_FAIL, handle))
+        within("the worker has ended", process.has_ended)
+        within("the queue is empty", lambda: of_function(client) == (0, 0, 0))
+
+
 def php_callers(port, _kind):
     """PHP's client asks for exceptions by itself."""
     with worker(port, PHP, "sends"):
@@ -322,7 +332,8 @@ def has_c():
 
 IN_C = (c_worker, c_clone, c_second_version, c_partition, c_no_job, c_echoes, c_several, c_priorities, c_priorities_of_functions,
         c_leaves_one, c_id, c_sends_exception, c_raises, other_options_of_c, c_over_its_limit)
-IN_PHP = (php_pings, php_several, php_priorities, php_priorities_of_functions, php_leaves_one, php_id, php_callers)
+IN_PHP = (php_pings, php_several, php_priorities, php_priorities_of_functions, php_leaves_one, php_id, php_uncaught,
+          php_callers)
 IN_PHP_AND_C = (php_worker, php_sends_exception, php_throws)
 IN_PERL = (perl_worker, perl_id, perl_dies, perl_empty_result)
 IN_PERL_AND_PHP = (perl_callers,)

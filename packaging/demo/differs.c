@@ -12,7 +12,10 @@ static void *mail(gearman_job_st *job, void *context, size_t *size, gearman_retu
 {
     const char *text = "boom";
     (void) context;
-    puts("job");
+    if (strcmp(what, "application") == 0)
+        printf("%.*s\n", (int) gearman_job_workload_size(job), (const char *) gearman_job_workload(job));
+    else
+        puts("job");
     fflush(stdout);
     *size = 0;
     *code = GEARMAN_SUCCESS;
@@ -40,11 +43,29 @@ static gearman_return_t mail2(gearman_job_st *job, void *context)
     return strcmp(what, "v2-error") == 0 ? GEARMAN_ERROR : strcmp(what, "v2-fail") == 0 ? GEARMAN_FATAL : GEARMAN_SUCCESS;
 }
 
+/* Submits jobs in the background, of each priority, and two with one id. It prints the codes. */
+static int queues(int port)
+{
+    gearman_client_st *client = gearman_client_create(NULL);
+    char handle[GEARMAN_JOB_HANDLE_SIZE];
+    gearman_client_add_server(client, "127.0.0.1", port);
+    gearman_client_set_timeout(client, 5000);
+    int low = gearman_client_do_low_background(client, "mail", NULL, "low", 3, handle);
+    int normal = gearman_client_do_background(client, "mail", "id", "normal", 6, handle);
+    int joins = gearman_client_do_background(client, "mail", "id", "joins", 5, handle);
+    int high = gearman_client_do_high_background(client, "mail", NULL, "high", 4, handle);
+    printf("%d %d %d %d\n", low, normal, joins, high);
+    gearman_client_free(client);
+    return 0;
+}
+
 int main(int count, char **arguments)
 {
     if (count != 3)
         return 2;
     what = arguments[2];
+    if (strcmp(what, "queues") == 0)
+        return queues(atoi(arguments[1]));
     if (strcmp(what, "status") == 0) {
         gearman_client_st *client = gearman_client_create(NULL);
         char handle[GEARMAN_JOB_HANDLE_SIZE];

@@ -34,13 +34,13 @@ function send_mail(string $text): string
     return 'done';
 }
 
-if ($what === 'throws' || $what === 'sends' || $what === 'slow' || $what === 'long' || $what === 'good') {
+if ($what === 'throws' || $what === 'uncaught' || $what === 'sends' || $what === 'slow' || $what === 'long' || $what === 'good') {
     // ARGUMENT is the time limit.
     $worker = worker($port);
     $worker->setId("php@$what");
     $worker->addFunction('mail', function ($job) use ($what) {
         echo "job\n";
-        if ($what === 'throws') {
+        if ($what === 'throws' || $what === 'uncaught') {
             throw new Exception('boom');
         } elseif ($what === 'sends') {
             $job->sendException('boom');
@@ -51,6 +51,9 @@ if ($what === 'throws' || $what === 'sends' || $what === 'slow' || $what === 'lo
         }
         return $what === 'long' ? str_repeat('x', 2000000) : 'done';
     }, null, (int) $argument);
+    while ($what === 'uncaught') {
+        @$worker->work();
+    }
     work($worker);
 } elseif ($what === 'application') {
     // A worker that reports all that there is.
