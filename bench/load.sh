@@ -3,6 +3,7 @@
 # Debian's gearmand (package gearman-job-server) with one thread, and both with four. A server is labelled by its program and its threads.
 # bench/load.sh [ROUNDS [LOADS [OPTIONS of load.rs]]] runs at the top of the repository, once gmd is built. bench/picture takes what it prints.
 # Five rounds of all loads take some ten minutes, and one takes two.
+# gmd has the C library keep memory as its package's service does, or as GLIBC_TUNABLES says, also where that is empty.
 # GMD and GEARMAND name other programs, PORT the first of five ports. Figures of one run alone can be compared.
 set -eu
 busy=$(cut -d ' ' -f 1 /proc/loadavg)
@@ -32,10 +33,11 @@ serve() {
     port=$((port + 1))
 }
 rustc --edition 2021 -O -o "$work/load" bench/load.rs
-serve gmd "$gmd" --slots 1024
+tunables=${GLIBC_TUNABLES-$(sed -n 's/^Environment=GLIBC_TUNABLES=//p' packaging/debian/gmd.service)}
+serve gmd env GLIBC_TUNABLES="$tunables" "$gmd" --slots 1024
 for threads in 1 4; do
-    serve "gmd-$threads" "$gmd" --slots 1024 --io-threads "$threads"
-    serve "gearmand-$threads" "$gearmand" --threads "$threads" --log-file none
+    serve "gmd-$threads" env GLIBC_TUNABLES="$tunables" "$gmd" --slots 1024 --io-threads "$threads"
+    serve "gearmand-$threads" env -u GLIBC_TUNABLES "$gearmand" --threads "$threads" --log-file none
 done
 sleep 1
 for pid in $pids; do
@@ -44,7 +46,7 @@ done
 # Figures that this run replaces don't make the clone another one.
 commit=$(git describe --always 2>"$work/git" || echo unknown)
 [ "$commit" = unknown ] || git diff --quiet HEAD -- . ':!bench/figures' || commit=$commit-dirty
-echo "# $("$gmd" --version), gearmand $("$gearmand" --version | grep -o '[0-9.]*' | head -n 1), $(nproc) processors" \
+echo "# $("$gmd" --version) with GLIBC_TUNABLES ${GLIBC_TUNABLES-of its service}, gearmand $("$gearmand" --version | grep -o '[0-9.]*' | head -n 1), $(nproc) processors" \
     "($(sed -n 's/^model name.*: //p' /proc/cpuinfo | head -n 1)), medians of $rounds in turn, $(date +%F), commit $commit, load average before it $busy"
 printf '# load\tserver\toperations a second\tprocessor us an operation\tp50 us\tp99 us\n'
 # shellcheck disable=SC2086

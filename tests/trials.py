@@ -2,6 +2,7 @@
 import contextlib
 import os
 import pathlib
+import re
 import signal
 import subprocess
 import sys
@@ -90,6 +91,12 @@ def program(crate, name, argument=1):
         check(name, same, "programs", f"there is no {path}", "README.md says how to build it")
         finish()
     return path.resolve()
+
+
+def unit_tunables():
+    """How the package's service has the C library keep memory: a variable of the environment."""
+    [value] = re.findall(r"(?m)^Environment=GLIBC_TUNABLES=(\S+)$", (ROOT / "packaging/debian/gmd.service").read_text())
+    return {"GLIBC_TUNABLES": value}
 
 
 def library():
