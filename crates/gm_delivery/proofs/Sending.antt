@@ -126,7 +126,7 @@ calls_more (Some older) b c calls more f g = made (subst (λ (o : Option (List A
     made : c ≡ Some (more ++ (calls ++ older)) → c ≡ Some ((more ++ calls) ++ older)
     made is = is ∙ ap (λ l. Some l) (sym (append_assoc more calls older))
 
--- so many of the eight writes were made
+-- the calls of the writes that were made, of eight at most
 pub record Calling (a b : Option (List Answer)) (writes_left : ℕ) : Type 0 where
   pub calls : List Answer
   pub made : Calls a b calls
