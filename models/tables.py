@@ -167,7 +167,7 @@ MUTANTS = [
     ("ends", ("endings", "ends", "-DGENS=1 -DTOUCHES=1 -DPEERS=4 -DUNITS=0"), "M_NEVER_GIVE_UP", "Life::next", "OutboundState::Open if has_left && !self.is_over => Deed::Send", "always"),
     ("ends", STAYS, "M_TIME_OVER_WITHOUT_HANG_UP", "Outbound::next", "self.socket.writer().shut(Shutdown::Both)", "left out"),
     ("ends", ("endings", "ltl", "-DENDLESS -DGENS=1 -DPEERS=2 -DUNITS=0"), "M_NO_MOST_TIME", "Life::look", "self.last = now.saturating_add(most).min(self.last)", "left out: only `until` is asked"),
-    ("server", FAILED, "M_STOP_WITHOUT_WAKE", "ServerState::stop", "self.service.crews.wake_all()", "left out"),
+    ("server", FAILED, "M_STOP_WITHOUT_WAKE", "ServerState::stop", "self.crews.wake_all()", "left out"),
     ("server", ("shutdown", "quiet", "-DCALLS=2 -DADMIN=2"), "M_GRACEFUL_FORGETS", "ServerState::follow", "self.progress.stage.rise(ServerStage::Graceful as u8)", "left out"),
     ("server", ("shutdown", "quiet", "-DCALLS=2 -DADMIN=0"), "M_OVER_WITHOUT_ENDING", "Progress::can_end", "!self.is_running() && self.connections() == 0", "self.connections() == 0"),
     ("server", FAILED, "M_ERROR_WITHOUT_STOP", "Control::run", "self.state.stop()", "left out"),

@@ -150,7 +150,7 @@ impl<'s, K: BookName + Send + Sync> Control<'s, K> {
         };
         talk.begin(state.alloc, side, reading, Some(peer));
         state.wake_for(leftover);
-        if let Err(error) = state.service.crews.begin(slot.lane.number(), fd) {
+        if let Err(error) = state.crews.begin(slot.lane.number(), fd) {
             talk.cut(SessionEnd::NoThread);
             discard(&mut talk, Patience::Hurries);
             state.end(rt, slot, &mut talk);
@@ -203,7 +203,7 @@ impl<'s, K: BookName + Send + Sync> Control<'s, K> {
     /// thread has visited yet: if there is no slot, the threads have a moment for that, and it is tried once more.
     fn find_slot<R: Wait + Clock>(&self, rt: &R, addr: &[u8]) -> Result<Option<u32>, ApplyError> {
         let opened = self.open_slot(rt, addr);
-        if matches!(opened, Err(ApplyError::NoSlot)) && self.state.service.crews.are_few() {
+        if matches!(opened, Err(ApplyError::NoSlot)) && self.state.crews.are_few() {
             thread::sleep(rt, Duration::from_millis(VISITING_TIME_MS));
             return self.open_slot(rt, addr);
         }
@@ -250,7 +250,7 @@ impl<'s, K: BookName + Send + Sync> Control<'s, K> {
         peer: SocketAddr,
     ) {
         // Modelled in models/ticks.pml.
-        let Ok(()) = prepare(&stream, self.state.service.peer_timeout) else {
+        let Ok(()) = prepare(&stream, self.state.peer_timeout) else {
             return;
         };
         let speaker = &self.state.host.speaker;
@@ -299,7 +299,7 @@ impl<'s, K: BookName + Send + Sync> Control<'s, K> {
         for _ in rt.forever() {
             self.state.update_time(rt);
             self.tell(rt, announcer);
-            match self.state.service.listener.accept() {
+            match self.state.listener.accept() {
                 Ok((stream, peer)) => self.admit(scope, rt, gate, stream, peer),
                 Err(error) if is_usual(&error) => {}
                 Err(error) if is_fatal(&error) => return Err(ServeError::Listen),

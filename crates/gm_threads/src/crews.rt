@@ -119,7 +119,7 @@ pub(crate) fn start<'s, E, K: BookName + Send + Sync, G: Gate, R: Threads + Wait
     gate: &'s G,
     pollers: Vec<Poller>,
 ) -> bool {
-    let Crews::Few(hub) = &state.service.crews else {
+    let Crews::Few(hub) = &state.crews else {
         return true;
     };
     for poller in pollers {
@@ -142,7 +142,7 @@ pub(crate) fn prepare<'s, E, K: BookName + Send + Sync, G: Gate, R: Threads + Wa
     slot: &'s Slot<K>,
 ) -> bool {
     // Modelled in models/endings.pml and shutdown.pml.
-    let Crews::Pairs(pairs) = &state.service.crews else {
+    let Crews::Pairs(pairs) = &state.crews else {
         return true;
     };
     let Some(pair) = pairs.get(slot.lane.number() as usize) else {
@@ -173,8 +173,8 @@ pub(crate) fn prepare<'s, E, K: BookName + Send + Sync, G: Gate, R: Threads + Wa
 pub(crate) fn dismiss<K: BookName>(rt: &impl Wait, state: &ServerState<K>) {
     // Modelled in models/serving.h.
     state.progress.stage.rise(ServerStage::Ended as u8);
-    state.service.crews.wake_all();
-    if let Crews::Pairs(pairs) = &state.service.crews {
+    state.crews.wake_all();
+    if let Crews::Pairs(pairs) = &state.crews {
         for (slot, pair) in state.slots.iter().zip(pairs.iter()) {
             // Under the lock, so that its reader waits already or sees the stage.
             let talk = slot.talk.lock(rt);

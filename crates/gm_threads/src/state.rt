@@ -6,9 +6,11 @@ ghost use Rattle.gm_session.specs.Effects.{IsNothing};
 ghost use Rattle.gm_session.specs.Owners.{Opens};
 ghost use Rattle.gm_slots.specs.Served.{SettledSo};
 
+use crate::crews::Crews;
 use crate::progress::Progress;
 use crate::server::Service;
 use gm_delivery::{DeliveryContext, Finish, Leftover, ServerStage};
+use gm_feeder::Limits;
 use gm_lane_word::Due;
 use gm_notes::{ApplyError, Mode};
 use gm_session::{Effects, Host, OwnDesk};
@@ -16,14 +18,19 @@ use gm_shared::{Blank, BlankPairing, BookName, Pairing, Shared};
 use gm_slots::{Served, Slot, open_slots, settle_slots};
 use gm_time::{DELIVERING_TIME_MS, has_passed};
 use std::alloc::{AllocError, Global};
-use std::sync::{Arc, Wait};
+use std::net::TcpListener;
+use std::sync::Wait;
 use std::time::{Clock, Duration};
 
 /// The state that all threads of a server share.
 #[derive(Drop)]
 pub(crate) struct ServerState<K: BookName> {
     pub(crate) alloc: Global,
-    pub(crate) service: Service,
+    pub(crate) listener: TcpListener,
+    pub(crate) peer_timeout: u16,
+    pub(crate) crews: Crews,
+    // How large a unit may be.
+    pub(crate) limits: Limits,
     pub(crate) shared: Shared<K>,
     pub(crate) slots: Vec<Slot<K>>,
     // How many slots the book has.
@@ -50,14 +57,24 @@ impl<K: BookName> ServerState<K> {
         requires settings { blank.settings ≡ K.settings }
         requires taped { blank.taped ≡ K.taped }
         requires sockets { sockets ≡ K.sockets }
-        ensures { IfOk result (λ made. made.0.service.limits ≡ service.limits) }
+        ensures { IfOk result (λ made. made.0.limits ≡ service.limits) }
     {
         let slot_count = blank.slots();
-        let speaker = Arc::try_clone(&service.speaker)?;
-        let (shared, slots, control, pairing) = open_slots(alloc, blank, sockets, service.limits)?;
+        let Service {
+            listener,
+            limits,
+            peer_timeout,
+            crews,
+            speaker,
+            ..
+        } = service;
+        let (shared, slots, control, pairing) = open_slots(alloc, blank, sockets, limits)?;
         let state = ServerState {
             alloc,
-            service,
+            listener,
+            peer_timeout,
+            crews,
+            limits,
             shared,
             slots,
             slot_count,
@@ -70,11 +87,11 @@ impl<K: BookName> ServerState<K> {
     /// Ends the book and compares it with what the desks and pens were told. No thread has a part of the server any
     /// more.
     pub(crate) fn settle(self, pairing: Pairing<K>) -> Result<Served, AllocError>
-        ensures { IfOk result (λ served. SettledSo K.settings K.taped self.service.limits K.history served.book served.accounts.items) }
+        ensures { IfOk result (λ served. SettledSo K.settings K.taped self.limits K.history served.book served.accounts.items) }
     {
         let ServerState {
             alloc,
-            service,
+            limits,
             shared,
             slots,
             slot_count,
@@ -88,7 +105,7 @@ impl<K: BookName> ServerState<K> {
             slot_count,
             host.into_desk(),
             pairing,
-            service.limits,
+            limits,
         )
     }
 
@@ -103,7 +120,7 @@ impl<K: BookName> ServerState<K> {
     pub(crate) fn stop(&self) {
         // Modelled in models/shutdown.pml.
         self.progress.stage.rise(ServerStage::Stopped as u8);
-        self.service.crews.wake_all();
+        self.crews.wake_all();
     }
 
     /// Follows the book's mode.
@@ -116,7 +133,7 @@ impl<K: BookName> ServerState<K> {
             }
             Mode::Stopped => {
                 if self.progress.stage.rise(ServerStage::Stopped as u8) {
-                    self.service.crews.wake_all();
+                    self.crews.wake_all();
                 }
             }
         }
@@ -153,7 +170,7 @@ impl<K: BookName> ServerState<K> {
     #[inline(always)]
     pub(crate) fn wake_for(&self, leftover: Leftover) -> Option<Finish> {
         // Modelled in models/lane.h.
-        leftover.settle(|slot| self.service.crews.wake(slot))
+        leftover.settle(|slot| self.crews.wake(slot))
     }
 
     /// Notifies other threads of the effects of events, once the book's lock is let go: touches the lane of each
