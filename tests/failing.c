@@ -7,7 +7,8 @@
  * before each send that descriptor gets six numbers, to which the socket's options are set (OPTION_NAMES). Where it is steady, no call
  * fails, and each seed is the same. Where it is clock, no call fails, and the clock that never goes back stands at so many milliseconds
  * as the file of that descriptor begins with, a number of eight bytes. Where KIND is aborted, the Nth connection is closed as it is
- * accepted, and accept says that it was aborted.
+ * accepted, and accept fails with the error of FAIL_ERROR. Where it is hasty, no call fails, and that clock goes on by 20 milliseconds
+ * whenever it is read.
  *
  * A test asks for it itself: a growth to 2^47 + N bytes, which succeeds nowhere else, has the Nth growth after it refused, and
  * one to 2^47 bytes ends that, and succeeds where one was refused. */
@@ -21,12 +22,12 @@ extern long syscall(long, ...);
 extern char *getenv(const char *);
 extern int *__errno_location(void);
 
-enum { NONE, GROWTH, LATE, READ, WRITE, SEND, SETTING, SEED, ACCEPT, ABORTED, OPTIONS, STEADY, CLOCK };
+enum { NONE, GROWTH, LATE, READ, WRITE, SEND, SETTING, SEED, ACCEPT, ABORTED, OPTIONS, STEADY, CLOCK, HASTY };
 enum { SYS_READ = 0, SYS_WRITE = 1, SYS_CLOSE = 3, SYS_PREAD = 17, SYS_WRITEV = 20, SYS_SENDTO = 44, SYS_RECVFROM = 45,
        SYS_SENDMSG = 46, SYS_SETSOCKOPT = 54, SYS_GETSOCKOPT = 55, SYS_CLOCK_GETTIME = 228, SYS_ACCEPT4 = 288, SYS_GETRANDOM = 318 };
 enum { SOL_SOCKET = 1, SO_KEEPALIVE = 9, IPPROTO_TCP = 6, TCP_NODELAY = 1, TCP_KEEPIDLE = 4, TCP_KEEPINTVL = 5, TCP_KEEPCNT = 6,
        TCP_USER_TIMEOUT = 18 };
-enum { EIO = 5, ENOMEM = 12, ECONNABORTED = 103 };
+enum { EIO = 5, ENOMEM = 12 };
 enum { CLOCK_MONOTONIC = 1 };
 
 static const size_t ASKED = 1ul << 47, LONG = 1ul << 24;
@@ -58,13 +59,13 @@ static const char *after(const char *text, const char *word) {
 
 __attribute__((constructor)) static void read_settings(void) {
     static const char *const KINDS[] = {"", "growth:", "late:", "read:", "write:", "send:", "setting:", "seed:", "accept:", "aborted:",
-                                        "options", "steady", "clock"};
+                                        "options", "steady", "clock", "hasty"};
     const char *text = getenv("FAIL"), *number;
     if (getenv("FAIL_TOLD"))
         told = number_at(getenv("FAIL_TOLD"));
     if (getenv("FAIL_ERROR"))
         accept_error = number_at(getenv("FAIL_ERROR"));
-    for (int at = GROWTH; text && at <= CLOCK; at++)
+    for (int at = GROWTH; text && at <= HASTY; at++)
         if ((number = after(text, KINDS[at]))) {
             left = number_at(number);
             for (; *number; number++)
@@ -187,9 +188,9 @@ int accept4(int fd, void *address, void *size, int flags) {
     long taken = syscall(SYS_ACCEPT4, fd, address, size, flags);
     if (kind == ACCEPT)
         left -= taken >= 0;
-    if (taken >= 0 && fails(ABORTED, ECONNABORTED)) {
+    if (taken >= 0 && fails(ABORTED, accept_error)) {
         syscall(SYS_CLOSE, (int)taken);
-        *__errno_location() = ECONNABORTED;
+        *__errno_location() = accept_error;
         return -1;
     }
     return taken;
@@ -200,10 +201,14 @@ int accept(int fd, void *address, void *size) {
 }
 
 int clock_gettime(int clock, void *time) {
+    static long hasty;
     long milliseconds = 0, *parts = time;
-    if (kind != CLOCK || clock != CLOCK_MONOTONIC)
+    if ((kind != CLOCK && kind != HASTY) || clock != CLOCK_MONOTONIC)
         return syscall(SYS_CLOCK_GETTIME, clock, time);
-    syscall(SYS_PREAD, told, &milliseconds, sizeof milliseconds, 0l);
+    if (kind == HASTY)
+        milliseconds = __atomic_add_fetch(&hasty, 20, __ATOMIC_SEQ_CST);
+    else
+        syscall(SYS_PREAD, told, &milliseconds, sizeof milliseconds, 0l);
     parts[0] = milliseconds / 1000;
     parts[1] = milliseconds % 1000 * 1000000;
     return 0;
