@@ -4,12 +4,12 @@ use Rattle.clap.specs.Words.{Text, HasKind, kind_of}
 use Rattle.clap.specs.declared.error.Error.{Error}
 use Rattle.clap.specs.declared.error.kind.ErrorKind.{ErrorKind}
 use Rattle.clap.specs.declared.error.kind.ErrorKind.TheVariants as kinds
-use Rattle.gm_server.specs.declared.args.Args.{Args}
+use Rattle.gm_options.specs.declared.gmd.Args.{Args}
 use Rattle.gm_server.specs.declared.outcome.Outcome.{Outcome}
 use Rattle.gm_server.specs.declared.outcome.Outcome.TheVariants.{Said, Served}
 use Rattle.gm_server.specs.declared.outcome.RunError.{RunError}
 use Rattle.gm_server.specs.declared.outcome.RunError.TheVariants as errors
-use Rattle.gm_server.specs.Options.{fault_in, Reads}
+use Rattle.gm_options.specs.Words.{fault_in, Reads}
 use Rattle.gm_server.specs.Outcomes.{IsRequest, SaysSo, DoesSo, EndsAs}
 
 -- memory that ran out is no request

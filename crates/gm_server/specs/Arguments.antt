@@ -1,6 +1,6 @@
 -- The values of arguments.
 use Rattle.gm_notes.specs.Settings.{Settings}
-use Rattle.gm_server.specs.declared.args.Args.{Args}
+use Rattle.gm_options.specs.declared.gmd.Args.{Args}
 
 -- the book's settings
 abbrev pub asked_settings : Args → Settings

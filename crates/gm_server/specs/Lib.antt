@@ -1,4 +1,3 @@
-pub mod Options
 pub mod Arguments
 pub mod Statuses
 pub mod Outcomes

@@ -4,13 +4,13 @@ use Rattle.clap.specs.Words.{Text, IsAmong}
 use Rattle.clap.specs.declared.error.kind.ErrorKind.{ErrorKind}
 use Rattle.clap.specs.declared.error.kind.ErrorKind.TheVariants as kinds
 use Rattle.gm_notes.specs.Settings.{config_fault}
-use Rattle.gm_server.specs.declared.args.Args.{Args}
+use Rattle.gm_options.specs.declared.gmd.Args.{Args}
 use Rattle.gm_server.specs.declared.outcome.Outcome.{Outcome}
 use Rattle.gm_server.specs.declared.outcome.Outcome.TheVariants.{Said, Served}
 use Rattle.gm_server.specs.declared.outcome.RunError.{RunError}
 use Rattle.gm_server.specs.declared.outcome.RunError.TheVariants as errors
 use Rattle.gm_server.specs.Arguments.{asked_settings}
-use Rattle.gm_server.specs.Options.{fault_in, Reads}
+use Rattle.gm_options.specs.Words.{fault_in, Reads}
 use Rattle.gm_report.specs.declared.error.ServeError.{ServeError}
 use Rattle.gm_report.specs.declared.summary.Summary.{Summary}
 use Rattle.gm_slots.specs.declared.served.Served.{Served as Ended}

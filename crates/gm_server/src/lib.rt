@@ -2,8 +2,6 @@
 //! in gm_threads, and the theorems about them are in gm_slots and gm_promise.
 #![tactic(auto)]
 
-mod args;
-pub mod laws;
 mod outcome;
 mod run;
 

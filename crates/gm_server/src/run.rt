@@ -8,10 +8,10 @@ ghost use Rattle.gm_slots.specs.Served.{EndsSo};
 ghost use Rattle.gm_server.specs.Statuses.{ended_status};
 ghost use Rattle.gm_server.specs.Outcomes.{is_of_words, said_as, said_of, SaysSo, FailsSo, DoesSo, EndsAs};
 
-use crate::args::{Args, parse_args};
 use crate::outcome::{Outcome, RunError, report, status_of};
 use clap::error::ErrorKind;
 use gm_notes::{Config, MAX_FUNCTIONS};
+use gm_options::{Args, parse_args};
 use gm_report::{Announcer, Levels, ServeError, Speaker, Summary, first_socket, handed_sockets};
 use gm_session::OpenGate;
 use gm_threads::{Crews, Hub, Poller, Served, Service, Settings, serve_with};
