@@ -14,6 +14,12 @@ finish_of (Some Pending) Reader = Some Again
 finish_of (Some Pending) Other = Some Again
 finish_of finish deliverer = finish
 
+-- who isn't the finisher never leaves the finisher to come again by itself
+abbrev pub IsLeftBy : Deliverer → Option Finish → Type 0
+IsLeftBy (Finisher patience) finish = Unit {0}
+IsLeftBy deliverer (Some Pending) = ⊥
+IsLeftBy deliverer finish = Unit {0}
+
 -- the lane was left to its finisher
 abbrev pub HandsOver : Option Count → Type 0
 HandsOver None = ⊥

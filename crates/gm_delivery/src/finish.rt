@@ -2,7 +2,7 @@
 
 ghost use Rattle.std.specs.Prelude.{◌≡◌, Some, IsSome};
 ghost use Rattle.std.specs.Fn.{FnOnceReturns};
-ghost use Rattle.gm_delivery.specs.Leftovers.{finish_of, HandsOver};
+ghost use Rattle.gm_delivery.specs.Leftovers.{finish_of, HandsOver, IsLeftBy};
 
 use gm_feeder::Patience;
 use gm_lane_word::Tally;
@@ -52,6 +52,7 @@ impl Leftover {
         requires { HandsOver tally → IsSome finish }
         ensures slot { result.slot ≡ slot }
         ensures finish { result.finish ≡ finish_of finish deliverer }
+        ensures by { IsLeftBy deliverer result.finish }
         ensures tally { result.tally ≡ tally }
     {
         // Modelled in models/lane.h.

@@ -5,7 +5,8 @@ ghost use Rattle.std.specs.Net.Tcp.{stream_raw_fd};
 ghost use Rattle.gm_shared.specs.Openings.{most_openings};
 ghost use Rattle.gm_shared.specs.Pairings.{passed_with};
 ghost use Rattle.gm_delivery.specs.Accounts.{ArePast, AreOver, WentThrough};
-ghost use Rattle.gm_delivery.specs.Leftovers.{Tried, TriesOver, TriedOver, TriedLeft, Left, Attempted};
+ghost use Rattle.gm_delivery.specs.Leftovers.{IsLeftBy, Tried, TriesOver, TriedOver, TriedLeft, Left, Attempted};
+ghost use Rattle.gm_delivery.specs.declared.finish.Deliverer.TheVariants.{Reader as ByReader, Other as ByOther};
 
 use crate::finish::{Deliverer, Finish, Leftover};
 use crate::life::Deed;
@@ -121,7 +122,7 @@ impl<K: BookName> Lane<K> {
     ) -> Option<Leftover>
         requires unwritten { (writing.bytes ≡ []) × (writing.answers ≡ []) }
         ensures paired { MatchOption result (reading.new ≡ reading.old) (λ _. reading.new ≡ passed_with (Some (stream_raw_fd writing.writer.stream.value, true)) reading.old) }
-        ensures tried { IfSome result (λ leftover. (leftover.slot ≡ self.now.slot) × TriedOver self.now.word leftover.tally) }
+        ensures tried { IfSome result (λ leftover. (leftover.slot ≡ self.now.slot) × TriedOver self.now.word leftover.tally × IsLeftBy ByOther leftover.finish) }
         ensures slots { pairing.new ≡ pairing.old }
     {
         // Modelled in models/lane.h.
@@ -162,6 +163,7 @@ impl<K: BookName> Lane<K> {
         requires { due.slot ≡ self.now.slot }
         ensures slot { result.slot ≡ self.now.slot }
         ensures tried { Tried self.now.word result.tally }
+        ensures by { IsLeftBy ByOther result.finish }
     {
         // Modelled in models/lane.h.
         match self.word.touch(due) {
@@ -176,6 +178,7 @@ impl<K: BookName> Lane<K> {
         requires { due.slot ≡ self.now.slot }
         ensures slot { result.slot ≡ self.now.slot }
         ensures left { Left self.now.word result.tally }
+        ensures by { IsLeftBy ByOther result.finish }
     {
         // Modelled in models/lane.h.
         match self.word.leave(due) {
@@ -195,6 +198,7 @@ impl<K: BookName> Lane<K> {
     ) -> Leftover
         ensures slot { result.slot ≡ self.now.slot }
         ensures tried { IfSome result.tally (TriesOver self.now.word) }
+        ensures by { IsLeftBy ByReader result.finish }
     {
         // Modelled in models/lane.h.
         let asked = if has_input_ended {
@@ -217,6 +221,7 @@ impl<K: BookName> Lane<K> {
     ) -> Leftover
         ensures slot { result.slot ≡ self.now.slot }
         ensures tried { TriedOver self.now.word result.tally }
+        ensures by { IsLeftBy deliverer result.finish }
     {
         // Modelled in models/lane.h.
         match self.word.take_over() {
@@ -243,6 +248,7 @@ impl<K: BookName> Lane<K> {
         requires { 0 < tally.hand_overs → IsSome finish }
         ensures slot { result.slot ≡ self.now.slot }
         ensures tally { result.tally ≡ Some tally }
+        ensures by { IsLeftBy deliverer result.finish }
     {
         Leftover::new(self.slot, finish, deliverer, Some(tally))
     }
@@ -258,6 +264,7 @@ impl<K: BookName> Lane<K> {
         requires untouched { claim.hand_overs ≡ 0 }
         ensures slot { result.slot ≡ self.now.slot }
         ensures tried { Attempted claim.entry result.tally }
+        ensures by { IsLeftBy deliverer result.finish }
     {
         // Modelled in models/lane.h.
         let mut claim = claim;

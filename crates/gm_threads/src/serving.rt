@@ -145,7 +145,9 @@ impl<K: BookName> ServerState<K> {
         rt: &R,
         slot: &Slot<K>,
         leftover: Leftover,
-    ) -> Option<Finish> {
+    ) -> Option<Finish>
+        ensures { result ≡ leftover.finish }
+    {
         // Modelled in models/serving.h.
         let finish = self.wake_for(leftover);
         if finish == Some(Finish::Gone) {

@@ -168,7 +168,9 @@ impl<K: BookName> ServerState<K> {
 
     /// Has a lane's finisher woken, if that is left to do, and says what the delivery left to do.
     #[inline(always)]
-    pub(crate) fn wake_for(&self, leftover: Leftover) -> Option<Finish> {
+    pub(crate) fn wake_for(&self, leftover: Leftover) -> Option<Finish>
+        ensures { result ≡ leftover.finish }
+    {
         // Modelled in models/lane.h.
         leftover.settle(|slot| self.crews.wake(slot))
     }
