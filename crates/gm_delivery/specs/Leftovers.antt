@@ -14,7 +14,7 @@ finish_of (Some Pending) Reader = Some Again
 finish_of (Some Pending) Other = Some Again
 finish_of finish deliverer = finish
 
--- who isn't the finisher never leaves the finisher to come again by itself
+-- a thread that isn't the finisher never leaves work for which the finisher would come again by itself
 abbrev pub IsLeftBy : Deliverer → Option Finish → Type 0
 IsLeftBy (Finisher patience) finish = Unit {0}
 IsLeftBy deliverer (Some Pending) = ⊥

@@ -118,8 +118,9 @@ pub record IsLent (old new : TalkState) (side : SideState) : Type 0 where
   pub through : WentThrough old.hearings.past side.passed
   pub new_is : new ≡ record old { side = None }
 
+-- there is none to lend only while a connection is there, or if it is lent already
 abbrev pub Lends : Option SideState → TalkState → TalkState → Type 0
-Lends None old new = new ≡ old
+Lends None old new = (new ≡ old) × (old.talking ≡ None → old.side ≡ None)
 Lends (Some side) old new = IsLent old new side
 
 -- the side that was lent was handed one socket more meanwhile, of a connection that is served or not
