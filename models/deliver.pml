@@ -26,6 +26,9 @@
 bit  flip = 0;
 bit  parked = 0;
 
+#ifndef ENDLESS
+#define PLACES
+#endif
 #include "lane.h"
 
 byte n_done = 0;
@@ -50,7 +53,7 @@ proctype Toucher() {
 #ifdef M_SWAP_LATER
             :: core_phase[0] == ASLEEP -> core_phase[0] = OWED; wakes[0]++; seat_phase[0] = OWED; owes = true
 #else
-            :: core_phase[0] == ASLEEP -> core_phase[0] = OWED; wakes[0]++; seat_phase[0] = OWED; word[0] = OWED
+            :: core_phase[0] == ASLEEP -> core_phase[0] = OWED; wakes[0]++; seat_phase[0] = OWED; OWE(0)
 #endif
             :: true
             fi };
@@ -70,7 +73,7 @@ proctype Toucher() {
 #endif
 #ifdef M_SWAP_LATER
         ; if
-        :: owes -> word[0] = OWED; owes = false
+        :: owes -> OWE(0); owes = false
         :: else
         fi
 #endif

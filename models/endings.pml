@@ -96,7 +96,7 @@ proctype Toucher() {
         atomic { (book == 0) ->
             if
             :: is_open[0] -> QUEUE(0); is_due = true
-            :: is_open[0] && core_phase[0] == ASLEEP -> core_phase[0] = OWED; seat_phase[0] = OWED; word[0] = OWED; is_due = true
+            :: is_open[0] && core_phase[0] == ASLEEP -> core_phase[0] = OWED; seat_phase[0] = OWED; OWE(0); is_due = true
             :: !is_open[0] -> is_due = false
             fi };
         if

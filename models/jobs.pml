@@ -69,8 +69,8 @@ inline sync_word(s) {
     :: seat_phase[s] == AWAKE && core_phase[s] == ASLEEP -> word[s] = ASLEEP; seat_phase[s] = ASLEEP
     :: seat_phase[s] == AWAKE && core_phase[s] == OWED ->
         word[s] = ASLEEP; seat_phase[s] = ASLEEP;
-        word[s] = OWED; seat_phase[s] = OWED; wakes[s]++
-    :: seat_phase[s] == ASLEEP && core_phase[s] == OWED -> word[s] = OWED; seat_phase[s] = OWED; wakes[s]++
+        OWE(s); seat_phase[s] = OWED; wakes[s]++
+    :: seat_phase[s] == ASLEEP && core_phase[s] == OWED -> OWE(s); seat_phase[s] = OWED; wakes[s]++
     :: seat_phase[s] == ASLEEP && core_phase[s] == AWAKE -> word[s] = AWAKE; seat_phase[s] = AWAKE
     :: else
     fi

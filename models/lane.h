@@ -141,6 +141,17 @@ byte noops[N];           /* NOOPs that the socket took */
 byte takes[N];           /* NOOPs that the pen took */
 byte withdrawals[N];     /* that the book withdrew */
 byte wakes[N];           /* that were owed */
+#ifdef PLACES
+byte owed_at[N];         /* put, as the NOOP was owed, until it is taken; */
+byte l_owed_at[N];       /*   and of the one that was taken last, until it is sent */
+#define OWE(s) word[s] = OWED; owed_at[s] = put[s]
+#define TAKEN(s) l_owed_at[s] = owed_at[s]; owed_at[s] = 0
+#define SENT_NOOP(s) assert(l_next[s] >= l_owed_at[s]); l_owed_at[s] = 0   /* order: behind the bytes that were queued before it was owed */
+#else
+#define OWE(s) word[s] = OWED
+#define TAKEN(s) skip
+#define SENT_NOOP(s) skip
+#endif
 bool faulted[N];         /* the connection was hung up for a fault, or because it had its time */
 byte owners[N];          /* how many have the lane */
 
@@ -235,6 +246,7 @@ inline write_one(s) {
 #endif
                 l_noop[s] = false;
                 assert(l_next[s] == l_to[s]);      /* order: behind the bytes drained with it */
+                SENT_NOOP(s);
                 NOTE_NOOP(s);
                 noops[s]++
             :: else ->
@@ -277,7 +289,7 @@ inline take(s) {
 #ifdef M_TAKE_LEAVES_THE_WORD
     :: took -> takes[s]++
 #else
-    :: took -> word[s] = AWAKE; takes[s]++
+    :: took -> word[s] = AWAKE; takes[s]++; TAKEN(s)
 #endif
     :: else
     fi
@@ -406,8 +418,24 @@ inline attempt(s) {
         :: line[s] == OPEN && has_left[s] -> had_left = true; goto sends
         :: line[s] == OPEN && !has_left[s]
         fi;
+#ifdef M_TAKE_AFTER_DRAIN
+take_noop: skip };
+    atomic { drain(s) };
+    atomic {
+        if
+        :: res != OVER -> take(s)
+        :: else
+        fi;
+        if
+        :: took && res == DONE -> l_gen[s] = line_gen[s]; l_next[s] = drained[s]; l_to[s] = drained[s]; l_noop[s] = true; has_left[s] = true; res = SEND
+        :: took && res == SEND -> l_noop[s] = true
+        :: else
+        fi;
+        took = false;
+#else
 take_noop: take(s) };
     atomic { drain(s);
+#endif
         if
         :: res == SEND
         :: else -> goto sent

@@ -113,6 +113,7 @@ MUTANTS = [
     ("order", DELIVER, "M_LEFT_IS_DROPPED", "Outbound::send", "Sent::Some => {", "*left = None here too"),
     ("order", DELIVER, "M_SENT_AGAIN", "Message::send", "self.bytes.advance(count)", "only where all was sent"),
     ("order", DELIVER, "M_NOOP_FIRST", "Message::send", "return self.send_noop(w, by)", "before the bytes"),
+    ("order", DELIVER, "M_TAKE_AFTER_DRAIN", "Sender::refill", "let took = self.pen.take(shared)", "after the drain"),
     ("order", DELIVER, "M_DRAIN_LEAVES_BYTES", "Booked::drain_into", "let bytes = self.core.drain(slot)", "a copy of what waits"),
     ("order", STAYS, "M_KEEP_LEFT", "Sender::next", "self.left = None", "left out, and in let_go too"),
     ("order", ENDINGS, "M_CLOSE_FIRST", "ServerState::end", "if self.wake_for(leftover) == Some(Finish::Gone)", "after self.close"),
