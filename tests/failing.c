@@ -7,9 +7,10 @@
  * before each send that descriptor gets six numbers, to which the socket's options are set (OPTION_NAMES). Where it is steady, no call
  * fails, and each seed is the same. Where it is clock, no call fails, and the clock that never goes back stands at so many milliseconds
  * as the file of that descriptor begins with, a number of eight bytes. Where KIND is aborted, the Nth connection is closed as it is
- * accepted, and accept fails with the error of FAIL_ERROR. Where it is hasty, no call fails, and that clock goes on by 20 milliseconds
- * whenever it is read. Where it is types, no call fails: before each send that descriptor gets a byte, the type of the packet
- * with which the sent bytes begin.
+ * accepted, and accept fails with the error of FAIL_ERROR. Where it is types, no call fails: before each send that descriptor gets a
+ * byte, the type of the packet with which the sent bytes begin. Where it is sends, no call fails: before each send that descriptor gets
+ * two numbers of four bytes, which thread sends and how many bytes. Where it is hasty, no call fails, that clock goes on by 20
+ * milliseconds whenever it is read, and if there is such a descriptor, it gets these numbers too.
  *
  * A test asks for it itself: a growth to 2^47 + N bytes, which succeeds nowhere else, has the Nth growth after it refused, and
  * one to 2^47 bytes ends that, and succeeds where one was refused. */
@@ -23,9 +24,10 @@ extern long syscall(long, ...);
 extern char *getenv(const char *);
 extern int *__errno_location(void);
 
-enum { NONE, GROWTH, LATE, READ, WRITE, SEND, SETTING, SEED, ACCEPT, ABORTED, OPTIONS, STEADY, CLOCK, HASTY, TYPES };
+enum { NONE, GROWTH, LATE, READ, WRITE, SEND, SETTING, SEED, ACCEPT, ABORTED, OPTIONS, STEADY, CLOCK, HASTY, TYPES, SENDS };
 enum { SYS_READ = 0, SYS_WRITE = 1, SYS_CLOSE = 3, SYS_PREAD = 17, SYS_WRITEV = 20, SYS_SENDTO = 44, SYS_RECVFROM = 45,
-       SYS_SENDMSG = 46, SYS_SETSOCKOPT = 54, SYS_GETSOCKOPT = 55, SYS_CLOCK_GETTIME = 228, SYS_ACCEPT4 = 288, SYS_GETRANDOM = 318 };
+       SYS_SENDMSG = 46, SYS_SETSOCKOPT = 54, SYS_GETSOCKOPT = 55, SYS_GETTID = 186, SYS_CLOCK_GETTIME = 228, SYS_ACCEPT4 = 288,
+       SYS_GETRANDOM = 318 };
 enum { SOL_SOCKET = 1, SO_KEEPALIVE = 9, IPPROTO_TCP = 6, TCP_NODELAY = 1, TCP_KEEPIDLE = 4, TCP_KEEPINTVL = 5, TCP_KEEPCNT = 6,
        TCP_USER_TIMEOUT = 18 };
 enum { EIO = 5, ENOMEM = 12 };
@@ -60,13 +62,13 @@ static const char *after(const char *text, const char *word) {
 
 __attribute__((constructor)) static void read_settings(void) {
     static const char *const KINDS[] = {"", "growth:", "late:", "read:", "write:", "send:", "setting:", "seed:", "accept:", "aborted:",
-                                        "options", "steady", "clock", "hasty", "types"};
+                                        "options", "steady", "clock", "hasty", "types", "sends"};
     const char *text = getenv("FAIL"), *number;
     if (getenv("FAIL_TOLD"))
         told = number_at(getenv("FAIL_TOLD"));
     if (getenv("FAIL_ERROR"))
         accept_error = number_at(getenv("FAIL_ERROR"));
-    for (int at = GROWTH; text && at <= TYPES; at++)
+    for (int at = GROWTH; text && at <= SENDS; at++)
         if ((number = after(text, KINDS[at]))) {
             left = number_at(number);
             for (; *number; number++)
@@ -109,6 +111,12 @@ static void tell_options(int fd) {
         syscall(SYS_GETSOCKOPT, fd, OPTION_NAMES[at][0], OPTION_NAMES[at][1], &values[at], &size);
     }
     syscall(SYS_WRITE, told, values, sizeof values);
+}
+
+/* Tells which thread sends how many bytes. */
+static void tell_send(size_t size) {
+    const int numbers[] = {syscall(SYS_GETTID), size};
+    syscall(SYS_WRITE, told, numbers, sizeof numbers);
 }
 
 /* A test asks. */
@@ -160,6 +168,8 @@ long send(int fd, const void *bytes, size_t size, int flags) {
         tell_options(fd);
     if (kind == TYPES && size >= 8)
         syscall(SYS_WRITE, told, (const char *)bytes + 7, 1);
+    if (kind == SENDS || (kind == HASTY && told >= 0))
+        tell_send(size);
     return fails(SEND, EIO) ? -1 : syscall(SYS_SENDTO, fd, bytes, size, flags, 0, 0);
 }
 
