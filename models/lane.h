@@ -141,6 +141,7 @@ byte noops[N];           /* NOOPs that the socket took */
 byte takes[N];           /* NOOPs that the pen took */
 byte withdrawals[N];     /* that the book withdrew */
 byte wakes[N];           /* that were owed */
+/* with PLACES: the place in the queue at which a NOOP became owed */
 #ifdef PLACES
 byte owed_at[N];         /* put, as the NOOP was owed, until it is taken; */
 byte l_owed_at[N];       /*   and of the one that was taken last, until it is sent */
