@@ -1,12 +1,12 @@
 -- How the table of connections holds the facts of connections, after a slot changes.
-use Rattle.std.proofs.Common.{◌≡◌, ℕ, Bool, true, false, not, ◌&&◌, ◌||◌, ◌==◌, if◌then◌else◌, List, filter, Some, None}
+use Rattle.std.proofs.Common.{◌≡◌, ℕ, ◌+◌, ◌-◌, Bool, true, false, not, ◌&&◌, ◌||◌, ◌==◌, if◌then◌else◌, List, ◌++◌, append_assoc, filter, Some, None}
 use Rattle.std.proofs.Common.{unwrap_or, refl, sym, ap, subst, ◌∙◌, arith}
 use Rattle.std.proofs.lemmas.Bool.{false≢true}
 use Rattle.std.proofs.lemmas.Bool.Decides.{nat_tests}
 use Rattle.gm_notes.specs.declared.states.Phase.{Phase}
 use Rattle.gm_notes.specs.Settings.{Settings}
 use Rattle.gm_notes.specs.Jobs.{Ability, is_of, put}
-use Rattle.gm_conns.specs.Connections.{Connection}
+use Rattle.gm_conns.specs.Connections.{Connection, with_bytes}
 use Rattle.gm_conns.specs.ConnTables.{Table, conn, is_touched, Changes}
 use Rattle.gm_core.specs.Facts.{Seen, ConnFacts}
 use Rattle.gm_core.specs.Holds.{NamesFunctions, HoldsConns, shown, outbox, AllTouched}
@@ -154,3 +154,23 @@ module _ {old new : Table} {change : Connection → Connection} (c : ℕ) where
       or_false : (a b : Bool) → (a || b) ≡ false → b ≡ false
       or_false true b e = absurd (false≢true (sym e))
       or_false false b e = e
+
+-- bytes that are queued after others, to one slot, are queued together with them
+pub queued_both : {old mid new : Table} (c : ℕ) (first second : List ℕ) (n m : ℕ) → Changes c (with_bytes first n) true old mid → Changes c (with_bytes second m) true mid new
+    → Changes c (with_bytes (first ++ second) (n + m)) true old new
+queued_both {old} {mid} {new} c first second n m one other = record {
+  slots = other.slots ∙ one.slots;
+  conns = λ d. other.conns d ∙ (ap (λ (x : Connection). if d == c then with_bytes second m x else x) (one.conns d) ∙ both (d == c) (conn old d));
+  touched = λ d. other.touched d ∙ (ap (λ (t : Bool). (d == c) || t) (one.touched d) ∙ twice (d == c) (is_touched old d));
+}
+  where
+    both : (t : Bool) (x : Connection) → (if t then with_bytes second m (if t then with_bytes first n x else x) else (if t then with_bytes first n x else x)) ≡ (if t then with_bytes (first ++ second) (n + m) x else x)
+    both true x =
+        let bytes = append_assoc x.waiting first second in
+        let room : (x.room - n) - m ≡ x.room - (n + m) = omega arith in
+        λ i. record x { waiting = bytes i; room = room i }
+    both false x = refl
+
+    twice : (t u : Bool) → (t || (t || u)) ≡ (t || u)
+    twice true u = refl
+    twice false u = refl

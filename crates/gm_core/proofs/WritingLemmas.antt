@@ -3,7 +3,7 @@ use Rattle.std.proofs.Common.{◌≡◌, ℕ, zero, suc, ◌+◌, ◌-◌, ◌<�
 use Rattle.std.specs.Int.{w32, to_be_bytes}
 use Rattle.std.specs.List.{join_with_byte, list_any}
 use Rattle.gm_packet.specs.Packets.{response_magic, packet, has_nul, LackNul, Fits}
-use Rattle.gm_packet.specs.Answers.{Answer, answer_packet}
+use Rattle.gm_packet.specs.Answers.{Answer, answer_packet, echo_res}
 use Rattle.gm_packet.proofs.Packets.{length-packet}
 use Rattle.gm_actions.specs.Bodies.{last_text, EndsWith}
 use Rattle.gm_core.specs.Writing.{bare, bare_answer}
@@ -74,3 +74,8 @@ written_over answer short text all same ends is =
     ap (λ (l : List ℕ). l ++ text)
     (is ∙ ap (λ (a : Answer). take 8 (answer_packet a) ++ to_be_bytes w32 ((length (answer_packet a) - 12) + length text) ++ drop 12 (answer_packet a)) same)
     ∙ (lengthened answer.kind (join_with_byte 0 (bare answer.arguments)) text ∙ ap (packet response_magic answer.kind) (sym spelled))
+
+-- the header of an echo, and its bytes
+pub echoed : (bytes : List ℕ) → (response_magic ++ to_be_bytes w32 17 ++ to_be_bytes w32 (length bytes)) ++ bytes ≡ answer_packet (echo_res bytes)
+unfolding packet
+echoed bytes = refl

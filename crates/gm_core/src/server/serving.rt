@@ -1,7 +1,9 @@
 //! Requests as they come.
 
-ghost use Rattle.std.specs.Prelude.{IsErrOf, OnErr, IfOk, ◌≡◌, ◌≤◌, ℕ, List, length, true};
+ghost use Rattle.std.specs.Prelude.{IsErrOf, OnErr, IfOk, ◌≡◌, ◌<◌, ◌≤◌, ℕ, List, ◌++◌, length, true};
+ghost use Rattle.std.specs.Int.{w32, to_be_bytes};
 ghost use Rattle.gm_packet.specs.Answers.{echo_res};
+ghost use Rattle.gm_packet.specs.Packets.{response_magic};
 ghost use Rattle.gm_conns.specs.ConnTables.{IsOpen};
 ghost use Rattle.gm_notes.specs.Past.{give};
 ghost use Rattle.gm_notes.specs.Servers.{Answers, steps_after};
@@ -12,10 +14,20 @@ ghost use Rattle.gm_actions.specs.ReadEvents.{ReadsPacket};
 
 use super::Tables;
 use gm_actions::{Action, Refusal};
-use gm_bytes::{Data, SharedBytes};
+use gm_bytes::{Data, LONG, SharedBytes};
 use gm_notes::{ApplyError, Done};
-use gm_packet::Response;
+use gm_packet::{RESPONSE_MAGIC, Response};
 use std::alloc::AllocError;
+
+/// The header of an ECHO_RES with this many bytes.
+#[inline(always)]
+fn echo_header(size: u32) -> [u8; 12]
+    ensures { result ≡ response_magic ++ to_be_bytes w32 17 ++ to_be_bytes w32 size }
+{
+    let [m0, m1, m2, m3] = RESPONSE_MAGIC;
+    let [s0, s1, s2, s3] = size.to_be_bytes();
+    [m0, m1, m2, m3, 0, 0, 0, 17, s0, s1, s2, s3]
+}
 
 impl Tables {
     ghost use Rattle.gm_core.specs.Freed.{Frees};
@@ -111,9 +123,23 @@ impl Tables {
         requires sized { length body.now.bytes.now ≤ 1073741824 }
         ensures { Does self.old result self.new (give slot (echo_res body.now.bytes.now)) }
     {
-        let response = Response::EchoRes {
-            body: body.as_slice(),
-        };
-        self.answer(slot, &response, Some(body))
+        let bytes = body.as_slice();
+        if bytes.len() < LONG {
+            return self.echo_short(slot, bytes);
+        }
+        self.answer(slot, &Response::EchoRes { body: bytes }, Some(body))
+    }
+
+    /// `echo` of fewer bytes than are shared: they are copied once, straight into the queue.
+    fn echo_short(&mut self, slot: u32, bytes: &[u8]) -> Result<(), AllocError>
+        requires open { IsOpen self.old.conns slot }
+        requires short { length bytes.now < 65536 }
+        ensures { Does self.old result self.new (give slot (echo_res bytes.now)) }
+    {
+        let header = echo_header(bytes.len() as u32);
+        self.conns.reserve_out(slot, 12 + bytes.len())?;
+        self.conns.put_out(slot, &header);
+        self.conns.put_out(slot, bytes);
+        Ok(())
     }
 }
