@@ -15,7 +15,7 @@ use Rattle.gm_notes.specs.JobStates.{JobState, is_live, is_waiting, is_running}
 use Rattle.gm_notes.specs.JobStates as states
 use Rattle.gm_notes.specs.Steps.{Step, run}
 use Rattle.gm_history.specs.History.{runs_at_a_slot, Allowed, History}
-use Rattle.gm_laws.specs.Laws.{AreConsecutive, was_made, AreOne, is_gone, StayGone}
+use Rattle.gm_laws.specs.Laws.{AreConsecutive, was_made, one, places_of, PlacedExactlyWhereMade, AreOne, is_gone, StayGone}
 use Rattle.gm_history.proofs.StepsKeep.{step_keeps, run_history}
 use Rattle.gm_history.proofs.Keeping.{keeps_notes, slot_runs}
 use Rattle.gm_laws.proofs.NumberLaws.{next_is, numbers}
@@ -97,6 +97,17 @@ places k (Assigned m c late ∷ older) h n = place_moved n m older (states.Runni
 places k (Ended m ∷ older) h n = place_moved n m older states.Ended (n == m) refl refl (running_place (job_state m older) h.0) (places k older h.1 n)
 places k (Discarded m ∷ older) h n = place_moved n m older states.Discarded (n == m) refl refl (live_place (job_state m older) (discarded_live (job_state m older) h.0.0)) (places k older h.1 n)
 places k (note ∷ older) h n = places k older h.1 n
+
+placed_once : (s : JobState) → places_of s ≡ one (has_place s)
+placed_once states.Unmade = refl
+placed_once states.Waiting = refl
+placed_once (states.Running c) = refl
+placed_once states.Lost = refl
+placed_once states.Ended = refl
+placed_once states.Discarded = refl
+
+pub placed : (k : Settings) (notes : List Note) → History k notes → PlacedExactlyWhereMade k notes
+placed k notes h n = placed_once (job_state n notes) ∙ ap one (places k notes h n)
 
 -- ---- one live job for each function and id
 

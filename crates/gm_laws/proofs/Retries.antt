@@ -17,7 +17,7 @@ use Rattle.gm_notes.specs.Steps.{Step, Packet, Tick, step}
 use Rattle.gm_history.specs.History.{runs_at_a_slot, Allowed, History}
 use Rattle.gm_history.specs.Causes.{Caused, Ends, is_tick}
 use Rattle.gm_laws.specs.Retries.{times, hands_out, gives_back, loses, NoJobIsHandedOutMoreOften}
-use Rattle.gm_laws.specs.Retries.{IsLostSo, OnlyTheLastTryLoses, LostJobsEndWithTheNextTick}
+use Rattle.gm_laws.specs.Retries.{NoJobIsLostTwice, IsLostSo, OnlyTheLastTryLoses, LostJobsEndWithTheNextTick}
 use Rattle.gm_laws.proofs.Clocks.{IsDue, tick_ends}
 use Rattle.gm_laws.proofs.JobLaws.{has_place, unmade}
 use Rattle.gm_laws.proofs.Moving.{both_not}
@@ -189,6 +189,29 @@ history_of k (note ∷ newer) older h = history_of k newer older h.1
 
 pub only_last : (k : Settings) (l : List Note) → History k l → OnlyTheLastTryLoses k l
 only_last k l h newer older n e = let g = history_of k newer (notes.Lost n ∷ older) (subst (History k) e h) in lost_so k n older g.0 g.1
+
+lost_once : (s : JobState) (out back lost : ℕ) → Counts s out back lost → lost ≤ 1
+lost_once states.Unmade out back lost h = let none = h.2 in omega arith
+lost_once states.Waiting out back lost h = let none = h.1 in omega arith
+lost_once (states.Running c) out back lost h = let none = h.1 in omega arith
+lost_once states.Lost out back lost h = let just = h.1 in omega arith
+lost_once states.Ended out back lost h = h.1
+lost_once states.Discarded out back lost h = let none = h.1 in omega arith
+
+none_lost : (k : Settings) (l : List Note) (n : ℕ) → History k l → k.retries ≡ 0 → times (loses n) l ≡ 0
+none_lost k [] n h none = refl
+none_lost k (notes.Lost m ∷ older) n h none = let some = (lost_so k m older h.0 h.1).0 in absurd (omega arith)
+none_lost k (note ∷ older) n h none = none_lost k older n h.1 none
+
+lost_within : (r lost : ℕ) (t : Bool) → (r == 0) ≡ t → lost ≤ 1 → (r ≡ 0 → lost ≡ 0) → lost ≤ cond t 0 1
+lost_within r lost true is most none = let at = none (eqb-true r 0 is) in omega arith
+lost_within r lost false is most none = most
+
+pub not_twice : (k : Settings) (l : List Note) → History k l → NoJobIsLostTwice k l
+not_twice k l h n =
+    lost_within k.retries (times (loses n) l) (k.retries == 0) refl
+    (lost_once (job_state n l) (times (hands_out n) l) (times (gives_back n) l) (times (loses n) l) (counts k l n h))
+    (none_lost k l n h)
 
 -- ---- until the next tick
 

@@ -13,7 +13,7 @@ use Rattle.gm_notes.specs.declared.states.Mode.{Mode}
 use Rattle.gm_notes.specs.declared.states.Mode.TheVariants.{Running, Graceful, Stopped}
 use Rattle.gm_admin.specs.Commands.{Shutdown}
 use Rattle.gm_notes.specs.declared.states.Pick.{Pick}
-use Rattle.gm_notes.specs.JobStates.{JobState, is_live, place_of}
+use Rattle.gm_notes.specs.JobStates.{JobState, is_waiting, is_running, is_live, place_of}
 use Rattle.gm_notes.specs.JobStates as states
 use Rattle.gm_notes.specs.Steps.{Step, Open, Packet, Line, Fault, Close, Took, Withdrew, Drain, refusal, done, step, run}
 use Rattle.gm_notes.specs.Past.{Past}
@@ -30,6 +30,26 @@ AreConsecutive k (n ∷ older) = (n ≡ k.first_job + length older) × (n < 2 ^ 
 -- the job was made
 abbrev pub was_made : ℕ → List Note → Bool
 was_made n notes = list_any (λ m. m == n) (made notes)
+
+-- in how many of the four places a job is: it waits, runs (a lost one until the next tick), has ended, was discarded
+abbrev pub one : Bool → ℕ
+one true = 1
+one false = 0
+
+abbrev pub has_ended : JobState → Bool
+has_ended states.Ended = true
+has_ended other = false
+
+abbrev pub was_discarded : JobState → Bool
+was_discarded states.Discarded = true
+was_discarded other = false
+
+abbrev pub places_of : JobState → ℕ
+places_of s = one (is_waiting s) + one (is_running s) + one (has_ended s) + one (was_discarded s)
+
+-- a job that was made is in exactly one of them, and any other in none
+abbrev pub PlacedExactlyWhereMade : Settings → List Note → Type 0
+PlacedExactlyWhereMade k notes = (n : ℕ) → places_of (job_state n notes) ≡ one (was_made n notes)
 
 -- the function is one of these
 abbrev pub IsAmong : List ℕ → List (List ℕ) → Type 0

@@ -38,6 +38,10 @@ loses n note = false
 abbrev pub NoJobIsHandedOutMoreOften : Settings → List Note → Type 0
 NoJobIsHandedOutMoreOften k notes = 0 < k.retries → (n : ℕ) → times (hands_out n) notes ≤ k.retries
 
+-- a job is lost once at most, and without a limit never
+abbrev pub NoJobIsLostTwice : Settings → List Note → Type 0
+NoJobIsLostTwice k notes = (n : ℕ) → times (loses n) notes ≤ (if k.retries == 0 then 0 else 1)
+
 -- when job n was lost, after these notes: it ran at a slot, it had been handed out as often as the limit says and had
 -- come back each time but the last, and it was wanted
 abbrev pub IsLostSo : Settings → List Note → ℕ → Type 0

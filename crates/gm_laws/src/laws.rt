@@ -4,7 +4,7 @@
 ghost use Rattle.gm_notes.specs.Jobs.{made};
 ghost use Rattle.gm_history.specs.Laws.{AfterAnySteps, InEachStep};
 ghost use Rattle.gm_laws.specs.Abilities.{AbilitiesAreAsAsked};
-ghost use Rattle.gm_laws.specs.Laws.{AreConsecutive, AreOne, StayGone};
+ghost use Rattle.gm_laws.specs.Laws.{AreConsecutive, PlacedExactlyWhereMade, AreOne, StayGone};
 ghost use Rattle.gm_laws.specs.Laws.{EndsWithItsWorker, WorkersAndClocksEndJobs, GivesThePick};
 ghost use Rattle.gm_laws.specs.Laws.{GrabsGetThePick, SaysNoJobWhereNoneIs, OnlyDrainsTake, ModesNeverGoBack, MayBeTakenLater};
 ghost use Rattle.gm_laws.specs.Listeners.{WhatWorkersSayIsPassedOn, ExceptionsEndJobs, EachListenerIsTold, OnlyEndsAreTold};
@@ -14,7 +14,7 @@ ghost use Rattle.gm_laws.specs.Statuses.{StatusIsTrue};
 ghost use Rattle.gm_laws.specs.Submitted.{SubmissionsAreAnswered, WhatIsSubmittedIsWorkedOn};
 ghost use Rattle.gm_laws.specs.Turns.{TurnsAreFair, TurnsGoRound};
 ghost use Rattle.gm_laws.specs.Waiting.{FirstComeFirstServed, HighGoesFirst, WakesHaveWork, NoJobMeansNoWork};
-ghost use Rattle.gm_laws.specs.Retries.{NoJobIsHandedOutMoreOften};
+ghost use Rattle.gm_laws.specs.Retries.{NoJobIsHandedOutMoreOften, NoJobIsLostTwice};
 ghost use Rattle.gm_laws.specs.Retries.{OnlyTheLastTryLoses, LostJobsEndWithTheNextTick};
 ghost use Rattle.gm_laws.specs.Between.{ListenersAreOpen, RunnersAreOpen, NoWaitingJobIsOrphaned, NoOneSleepsBesideWork};
 ghost use Rattle.gm_laws.specs.Answered.{TicksAreTaken, ShutdownIsAnswered};
@@ -40,6 +40,12 @@ ghost use Rattle.gm_laws.specs.Fitting.{SettingsAreChecked};
 /// The numbers made are the first and its successors, each once, none above 18446744073709551615.
 pub fn numbers_are_consecutive()
     ensures { AfterAnySteps (λ k notes. AreConsecutive k (made notes)) }
+{}
+
+/// A job that was made is in exactly one of four places: it waits, runs, has ended or was discarded. A lost job runs until
+/// the next tick. Any other job is in none of them.
+pub fn placed_exactly_where_made()
+    ensures { AfterAnySteps PlacedExactlyWhereMade }
 {}
 
 /// Live jobs of one function with one unique id that joins are one job.
@@ -189,6 +195,11 @@ pub fn no_job_is_handed_out_more_often()
 /// it had come back each time before, and was wanted.
 pub fn only_the_last_try_loses()
     ensures { AfterAnySteps OnlyTheLastTryLoses }
+{}
+
+/// A job is lost once at most, and without a limit on retries never.
+pub fn no_job_is_lost_twice()
+    ensures { AfterAnySteps NoJobIsLostTwice }
 {}
 
 /// A lost job ends with the next tick, and stays lost until then, whatever comes.
