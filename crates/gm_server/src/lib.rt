@@ -5,6 +5,8 @@
 mod outcome;
 mod run;
 
-pub use gm_session::Gate;
-pub use gm_threads::{Settings, serve};
+pub use gm_delivery::{WriteFault, write_turn};
+pub use gm_report::ServeError;
+pub use gm_session::{Gate, SessionEnd, read_session};
+pub use gm_threads::{Served, Settings, serve};
 pub use run::run_words;
