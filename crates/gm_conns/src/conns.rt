@@ -345,8 +345,8 @@ impl Conns {
     }
 
     /// The least slot that was touched since it was last taken, which is taken out: a slot is touched when
-    /// it is opened, closed or shut, when its phase is set, and when bytes come to wait or are drained. So
-    /// none is missing whose waiting bytes, phase or shut have changed.
+    /// it is opened, closed or shut, when its phase is set, and when bytes come to wait. So none is missing whose
+    /// phase or shut have changed, or for which more bytes wait.
     pub fn take_touched(&mut self) -> Option<u32>
         ensures found { IfSome result (λ slot. IsTrue (is_touched self.old slot)) }
         ensures least { IfSome result (λ slot. (c : ℕ) → c < slot → is_touched self.old c ≡ false) }

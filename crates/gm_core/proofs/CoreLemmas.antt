@@ -33,7 +33,8 @@ use Rattle.gm_core.specs.declared.server.Tables.{Tables}
 use Rattle.gm_core.specs.Writing.{Text}
 use Rattle.gm_core.specs.Facts.{Seen, seen, conn_facts, function_facts, job_facts}
 use Rattle.gm_core.specs.Holds.{Holds, Keeps, IsKept, NamesFunctions, ability_named, shown, HoldsConns, HoldsFunctions, HoldsJobs}
-use Rattle.gm_core.specs.Holds.{AllTouched, Goes, Does, Makes}
+use Rattle.gm_core.specs.Holds.{AllTouched, Goes, Does, Makes, config_of}
+use Rattle.gm_actions.specs.Effects as effects
 use Rattle.gm_core.proofs.ConnLemmas.{touched_same, touched_then, touched_told, touched_apart, conn_changes, same_here}
 use Rattle.gm_core.proofs.ConnLemmas.{seen_same, phase_seen, shut_seen, option_seen, id_seen, can_seen, cant_seen}
 use Rattle.gm_core.proofs.ConnLemmas as lemmas
@@ -120,10 +121,10 @@ pub record Alters (names : List (List ℕ)) (change : Connection → Connection)
   pub waiting : (x : Connection) → (change x).waiting ≡ pour x.waiting
   pub able : (x : Connection) → NamesFunctions names x → NamesFunctions names (change x)
 
-pub goes_conn : {old new : Tables} {change : Connection → Connection} {told : Bool} (c : ℕ) (effect : Seen → Seen) (pour : List ℕ → List ℕ) (step : Past → Past)
-    → OnlyConns old new → Changes c change told old.conns new.conns → AllTouched old.conns new.conns
-    → ((p : Past) → Keeps old p → Alters old.functions.names change effect pour) → Touches c effect pour step → Goes old new step
-goes_conn {old} {new} {change} {told} c effect pour step only changes touched alter touches = record {
+pub goes_conn : {also : Tables → Tables → Type 0} {old new : Tables} {change : Connection → Connection} {told : Bool} (c : ℕ) (effect : Seen → Seen) (pour : List ℕ → List ℕ) (step : Past → Past)
+    → OnlyConns old new → Changes c change told old.conns new.conns → also old new
+    → ((p : Past) → Keeps old p → Alters old.functions.names change effect pour) → Touches c effect pour step → effects.Changes config_of Keeps also old new step
+goes_conn {also} {old} {new} {change} {told} c effect pour step only changes touched alter touches = record {
   config = only.config;
   others = touched;
   past = λ p keeps.
@@ -162,9 +163,10 @@ module _ {old new : Tables} (c : ℕ) (only : OnlyConns old new) where
       goes_conn c unseen (λ w. w ++ bytes) (with_output c bytes) only changes (touched_told c changes) (λ p keeps. record { opens = λ x. refl; shown = λ x able. refl; waiting = λ x. refl; able = λ x able. able })
       (record { opens = λ p. refl; seen = λ p d. same_here (d == c) (seen d p.notes); waiting = λ p d. refl; functions = λ p. refl; jobs = λ p. refl; moment = λ p. refl; mode = λ p. refl })
 
-  pub goes_drained : Changes c conns.emptied true old.conns new.conns → Goes old new (with_flow (Drained c))
+  -- a drain touches nothing
+  pub goes_drained : Changes c conns.emptied false old.conns new.conns → effects.Changes config_of Keeps (λ a b. Unit {0}) old new (with_flow (Drained c))
   goes_drained changes =
-      goes_conn c unseen (λ w. []) (with_flow (Drained c)) only changes (touched_told c changes) (λ p keeps. record { opens = λ x. refl; shown = λ x able. refl; waiting = λ x. refl; able = λ x able. able })
+      goes_conn c unseen (λ w. []) (with_flow (Drained c)) only changes tt (λ p keeps. record { opens = λ x. refl; shown = λ x able. refl; waiting = λ x. refl; able = λ x able. able })
       (record { opens = λ p. refl; seen = λ p d. same_here (d == c) (seen d p.notes); waiting = λ p d. refl; functions = λ p. refl; jobs = λ p. refl; moment = λ p. refl; mode = λ p. refl })
 
   -- ---- notes of one slot

@@ -1,13 +1,13 @@
 //! The fast server: connections, functions and live jobs in tables.
 
-ghost use Rattle.std.specs.Prelude.{◌≡◌, ℕ, ◌≤◌, ◌<◌, ◌^◌, ◌==◌, ◌&&◌, not, false, List, [], ◌∷◌, None, IfOk, IfSome, IfNone};
+ghost use Rattle.std.specs.Prelude.{◌≡◌, ℕ, ◌≤◌, ◌<◌, ◌^◌, ◌==◌, ◌&&◌, not, true, false, List, [], ◌∷◌, None, IfOk, IfSome, IfNone};
 ghost use Rattle.std.specs.Prelude.{IsTrue, IsErrOf, if◌then◌else◌};
 ghost use Rattle.gm_conns.specs.ConnTables.{conn, is_touched};
 ghost use Rattle.gm_notes.specs.Flow.{waiting};
 ghost use Rattle.gm_notes.specs.Notes.{is_open, phase};
 ghost use Rattle.gm_notes.specs.Settings.{Settings};
 ghost use Rattle.gm_notes.specs.Steps.{Step, Took, Withdrew, Drain, run};
-ghost use Rattle.gm_notes.specs.Servers.{step_of, IsSized, Answers, AnswersAt, steps_after, steps_after_that};
+ghost use Rattle.gm_notes.specs.Servers.{step_of, is_closing, IsSized, Answers, AnswersAt, steps_after, steps_after_that};
 ghost use Rattle.gm_notes.specs.Past.{give};
 
 mod abilities;
@@ -122,7 +122,7 @@ impl Core {
     }
 
     /// The least slot that was touched since it was last taken, which is taken out. Whatever the core is asked, a slot
-    /// is touched when its waiting bytes, its phase or whether it is shut change.
+    /// is touched when its waiting bytes, its phase or whether it is shut change, unless the bytes are drained.
     pub fn take_touched(&mut self) -> Option<u32>
         ensures found { IfSome result (λ slot. IsTrue (is_touched self.old.conns slot)) }
         ensures least { IfSome result (λ slot. (c : ℕ) → c < slot → is_touched self.old.conns c ≡ false) }
@@ -132,6 +132,24 @@ impl Core {
         ensures agrees { (k : Settings) (steps : List Step) → CoreAgrees self.old k steps → CoreAgrees self.new k steps }
     {
         self.tables.conns.take_touched()
+    }
+
+    /// Takes the bytes that wait for a slot, and says whether the slot is shut; none if it isn't open. It takes no
+    /// memory.
+    pub fn drain_open(&mut self, slot: u32) -> Option<(ByteQueue, bool)>
+        ensures some { IfSome result (λ got. (k : Settings) (steps : List Step) → CoreAgrees self.old k steps
+            → (is_open slot (run k steps).notes ≡ true) × (got.0.bytes ≡ waiting slot (run k steps).flow)
+            × (got.1 ≡ is_closing slot (run k steps)) × CoreAgrees self.new k (Drain slot ∷ steps)) }
+        ensures none { IfNone result ((k : Settings) (steps : List Step) → CoreAgrees self.old k steps
+            → (is_open slot (run k steps).notes ≡ false) × (waiting slot (run k steps).flow ≡ []) × CoreAgrees self.new k (Drain slot ∷ steps)) }
+        ensures refused { IfNone result (self.new ≡ self.old) }
+    {
+        let conns = &mut self.tables.conns;
+        if !conns.is_open(slot) {
+            return None;
+        }
+        let shut = conns.is_shut(slot);
+        Some((conns.drain(slot), shut))
     }
 
     /// As `apply`, for a caller with a lock: `freed` receives the shared body of a job that ends, which the caller
@@ -271,11 +289,10 @@ impl JobServer for Core {
     fn drain(&mut self, slot: u32) -> ByteQueue
         ensures answers { (k : Settings) (steps : List Step) → CoreAgrees self.old k steps
             → (result.bytes ≡ waiting slot (run k steps).flow) × CoreAgrees self.new k (Drain slot ∷ steps) }
-        ensures touched { AllTouched self.old.conns self.new.conns }
     {
-        if !self.tables.conns.is_open(slot) {
-            return ByteQueue::new(self.tables.alloc);
+        match self.drain_open(slot) {
+            Some((bytes, _)) => bytes,
+            None => ByteQueue::new(self.tables.alloc),
         }
-        self.tables.conns.drain(slot)
     }
 }

@@ -158,15 +158,10 @@ impl Booked {
         ensures opening { IfOk result (λ drained. drained.opening ≡ count_at slot self.old.openings) }
     {
         // Modelled in models/lane.h.
-        let (conns, _, _) = self.core.parts();
-        if !conns.is_open(slot) {
+        let copies = self.tape.room_for_bytes(share, &self.core, slot)?;
+        let Some((bytes, shut)) = self.core.drain_open(slot) else {
             return Err(ApplyError::NotOpen);
-        }
-        let copies = self.tape.room_for_bytes(share, conns, slot)?;
-        let shut = self.core.shut(slot);
-        let bytes = self.core.drain(slot);
-        // The drain touched its slot, for which no writer has anything to do.
-        let _slot = self.core.take_touched();
+        };
         self.tape.enter_drain(share, pen, slot, copies);
         Ok(Drained {
             bytes,

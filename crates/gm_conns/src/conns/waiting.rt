@@ -54,15 +54,14 @@ impl Conns {
         &conn.queue
     }
 
-    /// Takes out the bytes that wait. No room is reserved then.
+    /// Takes out the bytes that wait. No room is reserved then. It doesn't touch the slot, since whoever drains it has
+    /// the bytes.
     pub fn drain(&mut self, slot: u32) -> ByteQueue
         requires { IsOpen self.old slot }
         ensures bytes { result.bytes ≡ (conn self.old slot).waiting }
-        ensures rest { Changes slot emptied true self.old self.new }
+        ensures rest { Changes slot emptied false self.old self.new }
     {
         let conn = &mut self.conns[slot as usize];
-        let bytes = conn.queue.take();
-        self.touched.insert(slot);
-        bytes
+        conn.queue.take()
     }
 }

@@ -1,13 +1,14 @@
-use Rattle.std.proofs.Common.{◌∷◌, refl}
-use Rattle.gm_notes.specs.Flow.{Drained}
-use Rattle.gm_notes.specs.Past.{with_flow}
-use Rattle.gm_notes.specs.Steps.{Drain}
-use Rattle.gm_actions.proofs.Changing.{agrees_next}
-use Rattle.gm_core.proofs.CoreLemmas.{goes_drained}
+use Rattle.std.proofs.Common.{ap, ◌∙◌, sym}
+use Rattle.gm_bytes.specs.Queues.{Queued}
+use Rattle.gm_core.proofs.server.CoreJobServer.drain.Goals.{in-Some, in-None}
 use Rattle.gm_core.proofs.server.CoreJobServer.drain.Goals as goal
 
-pub invariant_of-self : goal.invariant_of-self
-invariant_of-self c =
-    let was = c.self.invariant in
-    let slot = c.args.slot in
-    (was.0, Drain slot ∷ was.1, agrees_next was.0 was.1 (Drain slot) (with_flow (Drained slot)) was.2 (goes_drained slot (record { config = refl; functions = refl; jobs = refl; moment = refl; mode = refl }) c.drain.ensures.rest) refl refl)
+pub returns : goal.returns
+returns c = record { answers = λ k steps h. elim c.match-drain_open.branch [
+  | in-Some w ↦
+    let some = w.in-Some.ensures.some k steps h in
+    (ap (λ (q : Queued). q.bytes) w.result-is ∙ (ap (λ (q : Queued). q.bytes) w.in-Some.bytes-is ∙ some.1), some.3)
+  | in-None w ↦
+    let none = w.in-None.ensures.none k steps h in
+    (ap (λ (q : Queued). q.bytes) w.result-is ∙ (ap (λ (q : Queued). q.bytes) w.new.ensures ∙ sym none.1), none.2)
+] }
