@@ -71,7 +71,7 @@
 #define FINISHED 2
 #define CUT      3
 
-/* What is asked of a connection (lane.rt): nothing, MUST_END, INPUT_ENDED */
+/* What is asked of a connection (stage.rt): nothing, MUST_END, INPUT_ENDED */
 #define SERVING 0
 #define ENDING  1
 #define ENDED   2
@@ -164,7 +164,7 @@ byte owners[N];          /* how many have the lane */
 #define COUNT_BLOCK(s)  blocks[s]--
 #endif
 
-/* Writing::is_ending (lane.rt) */
+/* Stage::asked (stage.rt) */
 #define IS_ENDING(s) (stage[s] != SERVING || server_stage >= STOPPED)
 #ifdef M_TIME_BEFORE_THE_END
 #define ENDS(s) true
@@ -182,7 +182,7 @@ byte owners[N];          /* how many have the lane */
     byte who = OTHER; byte res = 0; byte fin = 0; byte found = 0; byte attempts = 0; \
     bool had_left = false; bool is_shut = false; bool took = false; bool has_ended = false; bool is_ending = false; bool has = false; bool has_taken = false
 
-/* Nothing is left of the present message (Outbound::send, outbound.rt; Sender::next and let_go, sender.rt) */
+/* Nothing is left of the present message (Outbound::send, outbound.rt; Sender::deliver and let_go, sender.rt) */
 inline forget(s) {
     has_left[s] = false; l_gen[s] = 0; l_next[s] = 0; l_to[s] = 0; l_noop[s] = false
 }
@@ -192,7 +192,7 @@ inline cut(s) {
     line[s] = CUT; faulted[s] = true
 }
 
-/* What Sender::next (sender.rt) and Outbound::next (outbound.rt) do to hang up, under the lane's lock */
+/* What Sender::deliver (sender.rt) and Outbound::next (outbound.rt) do to hang up, under the lane's lock */
 inline hang_up(s) {
 #ifndef M_KEEP_LEFT
     forget(s);
@@ -358,7 +358,7 @@ inline let_go(s) {
     fi
 }
 
-/* Sender::next (sender.rt) with Outbound::next (outbound.rt) and Life::next (life.rt), and what Lane::attempt (lane.rt) does then; under the
+/* The end of Sender::deliver (sender.rt) with Outbound::next (outbound.rt), and what Lane::attempt (lane.rt) does then; under the
  * lane's lock, which is released. Where bytes are left, a finisher that may wait comes again at once, as its write has waited; here each
  * comes again where that may change something. */
 inline end_delivery(s) {

@@ -11,7 +11,7 @@ ghost use Rattle.gm_delivery.specs.declared.finish.Deliverer.TheVariants.{Reader
 use crate::finish::{Deliverer, Finish, Leftover};
 use crate::life::Deed;
 use crate::sender::{Delivered, LaneParts, Sender};
-use crate::stage::{ServerStage, Stage};
+use crate::stage::{INPUT_ENDED, MUST_END, Stage};
 use gm_feeder::Patience;
 use gm_lane_word::{Attempt, Claim, Due, LaneWord, Tally};
 use gm_report::Speaker;
@@ -24,13 +24,6 @@ use std::time::Clock;
 /// How many attempts a thread makes in a row, if the lane is touched again and again.
 const MOST_ATTEMPTS: u32 = 16;
 
-/// Asked by the reader of a connection: no more of its requests are taken, the waiting bytes are sent, and then no
-/// more.
-const MUST_END: u8 = 1;
-
-/// The same, and it is let go of then, as nothing is read from it any more.
-const INPUT_ENDED: u8 = 2;
-
 /// The surroundings of a delivery: the book in which the bytes and NOOPs wait, the stage of the server, and the
 /// speaker, which reports peers that vanished.
 #[derive(Clone, Copy)]
@@ -41,28 +34,12 @@ pub struct DeliveryContext<'s, K: BookName, R> {
     pub speaker: &'s Speaker,
 }
 
-impl<'s, K: BookName, R> DeliveryContext<'s, K, R> {
-    /// Whether all connections are to end.
-    pub(crate) fn is_stopping(&self) -> bool {
-        // Modelled in models/shutdown.pml.
-        self.server.has_reached(ServerStage::Stopped as u8)
-    }
-}
-
 /// How a thread writes: what is asked of its connection, and whether it waits for a slow peer.
 #[derive(Drop)]
 pub(crate) struct Writing<'a, K: BookName, R> {
     pub(crate) context: &'a DeliveryContext<'a, K, R>,
-    asked: &'a Stage,
+    pub(crate) asked: &'a Stage,
     pub(crate) patience: Patience,
-}
-
-impl<'a, K: BookName, R> Writing<'a, K, R> {
-    /// Whether the connection is to end.
-    pub(crate) fn is_ending(&self) -> bool {
-        // Modelled in models/lane.h.
-        self.asked.has_reached(MUST_END) || self.context.is_stopping()
-    }
 }
 
 /// A slot's part for sending. The bytes to send are with the thread that has the lane, so its lock is waited for only
@@ -136,7 +113,7 @@ impl<K: BookName> Lane<K> {
         }
         match self.word.take_over() {
             Ok(claim) => Some(self.deliver_claimed(context, claim, Deliverer::Other)),
-            Err(tally) => Some(self.left(None, Deliverer::Other, tally)),
+            Err(tally) => Some(Leftover::new(self.slot, None, Deliverer::Other, Some(tally))),
         }
     }
 
@@ -168,7 +145,7 @@ impl<K: BookName> Lane<K> {
         // Modelled in models/lane.h.
         match self.word.touch(due) {
             Ok(claim) => self.deliver_claimed(context, claim, Deliverer::Other),
-            Err(tally) => self.left(None, Deliverer::Other, tally),
+            Err(tally) => Leftover::new(self.slot, None, Deliverer::Other, Some(tally)),
         }
     }
 
@@ -182,9 +159,14 @@ impl<K: BookName> Lane<K> {
     {
         // Modelled in models/lane.h.
         match self.word.leave(due) {
-            Ok(tally) => self.left(Some(Finish::Again), Deliverer::Other, tally),
+            Ok(tally) => Leftover::new(
+                self.slot,
+                Some(Finish::Again),
+                Deliverer::Other,
+                Some(tally),
+            ),
             // Another thread tries after this touch.
-            Err(tally) => self.left(None, Deliverer::Other, tally),
+            Err(tally) => Leftover::new(self.slot, None, Deliverer::Other, Some(tally)),
         }
     }
 
@@ -226,7 +208,7 @@ impl<K: BookName> Lane<K> {
         // Modelled in models/lane.h.
         match self.word.take_over() {
             Ok(claim) => self.deliver_claimed(context, claim, deliverer),
-            Err(tally) => self.left(Some(Finish::Pending), deliverer, tally),
+            Err(tally) => Leftover::new(self.slot, Some(Finish::Pending), deliverer, Some(tally)),
         }
     }
 
@@ -239,18 +221,8 @@ impl<K: BookName> Lane<K> {
         let finisher = Deliverer::Finisher(Patience::Hurries);
         match self.word.take_over_left() {
             Ok(claim) => self.deliver_claimed(context, claim, finisher),
-            Err(tally) => self.left(None, finisher, tally),
+            Err(tally) => Leftover::new(self.slot, None, finisher, Some(tally)),
         }
-    }
-
-    /// The work that this thread leaves at the lane, after this work of its own.
-    fn left(&self, finish: Option<Finish>, deliverer: Deliverer, tally: Tally) -> Leftover
-        requires { 0 < tally.hand_overs → IsSome finish }
-        ensures slot { result.slot ≡ self.now.slot }
-        ensures tally { result.tally ≡ Some tally }
-        ensures by { IsLeftBy deliverer result.finish }
-    {
-        Leftover::new(self.slot, finish, deliverer, Some(tally))
     }
 
     /// Makes an attempt, and another if the lane was touched since.
@@ -275,15 +247,25 @@ impl<K: BookName> Lane<K> {
             ));
             let delivered = match outcome {
                 Ok(delivered) => delivered,
-                Err(finish) => return self.left(Some(finish), deliverer, attempt.hand_over()),
+                Err(finish) => return Leftover::new(
+                    self.slot,
+                    Some(finish),
+                    deliverer,
+                    Some(attempt.hand_over()),
+                ),
             };
             claim = match attempt.finish(delivered) {
-                Ok(tally) => return self.left(None, deliverer, tally),
+                Ok(tally) => return Leftover::new(self.slot, None, deliverer, Some(tally)),
                 Err(again) => again,
             };
             attempts_left -= 1;
             if attempts_left == 0 {
-                return self.left(Some(Finish::Again), deliverer, claim.hand_over());
+                return Leftover::new(
+                    self.slot,
+                    Some(Finish::Again),
+                    deliverer,
+                    Some(claim.hand_over()),
+                );
             }
         }
     }
@@ -311,8 +293,9 @@ impl<K: BookName> Lane<K> {
         };
         // Under the lock, so that it is asked of this connection; and first, so that all is sent that was queued before
         // its end was asked for.
-        let has_ended = self.asked.has_reached(INPUT_ENDED);
-        let ends = by.is_ending() && !has_ended;
+        let asked = self.asked.asked(context.server);
+        let has_ended = asked.has_ended;
+        let ends = asked.is_ending && !has_ended;
         match sender.deliver(&by, ends, has_ended) {
             Ok(delivered) => Ok(delivered),
             // A write that may wait has waited. The system reports that a socket takes bytes again only after one that

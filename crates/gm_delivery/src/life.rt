@@ -1,7 +1,7 @@
 //! How a connection ends: until when it is sent to, and the next step for it.
 
 ghost use Rattle.std.specs.Prelude.{◌≡◌, ◌≤◌, ◌↔◌, ◌*◌, ◌-◌, ◌^◌, min, IsTrue, if◌then◌else◌, false};
-ghost use Rattle.gm_delivery.specs.Lives.{deed_of, later, most_time, state_if};
+ghost use Rattle.gm_delivery.specs.Lives.{later, most_time, state_if};
 
 use gm_time::{ENDING_TIME_MS, MOST_ENDING_TIME_MS};
 
@@ -41,7 +41,7 @@ pub struct Life {
     /// When it is over whatever its peer takes.
     last: u64,
     /// Its time is over: it takes no more. Only `look` says so.
-    is_over: bool,
+    pub(crate) is_over: bool,
 }
 
 impl Life {
@@ -61,13 +61,6 @@ impl Life {
             last: u64::MAX,
             is_over: false,
         }
-    }
-
-    /// Whether its time is over.
-    pub(crate) fn is_over(&self) -> bool
-        ensures { result ≡ self.now.is_over }
-    {
-        self.is_over
     }
 
     /// Looks at the time, if the connection is to end: it gets more while its peer takes some, up to a limit for the
@@ -92,19 +85,5 @@ impl Life {
         };
         self.last = now.saturating_add(most).min(self.last);
         self.is_over = self.until.min(self.last) <= now;
-    }
-
-    /// The next step, by whether something is left to be sent, and whether its input ended.
-    pub(crate) fn next(&self, has_left: bool, has_ended: bool) -> Deed
-        ensures { result ≡ deed_of self.now.state self.now.is_over has_left has_ended }
-    {
-        // Modelled in models/lane.h.
-        match self.state {
-            OutboundState::Open if has_left && !self.is_over => Deed::Send,
-            _ if has_ended => Deed::LetGo,
-            OutboundState::Open if !has_left => Deed::Serve,
-            OutboundState::Finished if !self.is_over => Deed::Linger,
-            _ => Deed::HangUp,
-        }
     }
 }

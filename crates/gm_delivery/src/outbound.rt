@@ -135,10 +135,17 @@ impl Outbound {
     {
         // Modelled in models/lane.h.
         if self.life.state == OutboundState::Finished {
+            let asked = by.asked.asked(by.context.server);
             self.life
-                .look(now_ms(by.context.rt), by.context.is_stopping(), false);
+                .look(now_ms(by.context.rt), asked.is_stopping, false);
         }
-        let deed = self.life.next(has_left, has_ended);
+        let deed = match self.life.state {
+            OutboundState::Open if has_left && !self.life.is_over => Deed::Send,
+            _ if has_ended => Deed::LetGo,
+            OutboundState::Open if !has_left => Deed::Serve,
+            OutboundState::Finished if !self.life.is_over => Deed::Linger,
+            _ => Deed::HangUp,
+        };
         if deed == Deed::HangUp {
             if self.life.state == OutboundState::Open {
                 self.life.state = OutboundState::Cut;
@@ -161,7 +168,7 @@ impl KnownWriter for Outbound {
     ghost is_over = { λ o. o.over };
 
     fn is_over(&self) -> bool {
-        self.life.is_over()
+        self.life.is_over
     }
 }
 
@@ -177,10 +184,11 @@ impl<'a, K: BookName, R: Wait + Clock> Wire<Writing<'a, K, R>> for Outbound {
         if matches!(&outcome, Err(error) if error.kind() == ErrorKind::TimedOut) {
             by.context.speaker.count_timed_out(by.context.rt);
         }
-        if by.is_ending() {
+        let asked = by.asked.asked(by.context.server);
+        if asked.is_ending {
             let has_taken = matches!(outcome, Ok(count) if count > 0);
             let now = now_ms(by.context.rt);
-            self.life.look(now, by.context.is_stopping(), has_taken);
+            self.life.look(now, asked.is_stopping, has_taken);
         }
         outcome
     }

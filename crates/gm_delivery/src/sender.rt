@@ -165,9 +165,15 @@ impl<K: BookName> Sender<K> {
     {
         // Modelled in models/lane.h.
         let is_clear = self.transmit(by, ends);
-        match self.next(by, is_clear, has_ended) {
+        let Some(outbound) = &mut self.outbound else {
+            return Ok(Delivered { _made: () });
+        };
+        match outbound.next(by, !is_clear, has_ended) {
             Deed::Serve => Ok(Delivered { _made: () }),
-            Deed::HangUp => Ok(Delivered { _made: () }),
+            Deed::HangUp => {
+                self.left = None;
+                Ok(Delivered { _made: () })
+            }
             Deed::Send => Err(Deed::Send),
             Deed::Linger => Err(Deed::Linger),
             Deed::LetGo => Err(Deed::LetGo),
@@ -250,33 +256,6 @@ impl<K: BookName> Sender<K> {
         match &mut self.outbound {
             Some(outbound) => outbound.finish(),
             None => {}
-        }
-    }
-
-    /// The next step for the connection after a delivery, by whether its input ended. Hanging up is done here: then
-    /// it is sent nothing more, and nothing is read from it.
-    fn next<R: Wait + Clock>(
-        &mut self,
-        by: &Writing<'_, K, R>,
-        clear: bool,
-        has_ended: bool,
-    ) -> Deed
-        requires { clear ≡ is_clear self.old }
-        ensures { Decides has_ended result self.old self.new }
-    {
-        // Modelled in models/lane.h.
-        match &mut self.outbound {
-            Some(outbound) => match outbound.next(by, !clear, has_ended) {
-                Deed::HangUp => {
-                    self.left = None;
-                    Deed::HangUp
-                }
-                Deed::Serve => Deed::Serve,
-                Deed::Send => Deed::Send,
-                Deed::Linger => Deed::Linger,
-                Deed::LetGo => Deed::LetGo,
-            },
-            None => Deed::Serve,
         }
     }
 
