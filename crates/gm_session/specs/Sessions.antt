@@ -24,15 +24,10 @@ use Rattle.gm_session.specs.declared.applier.Taken.TheVariants.{Unit as AUnit, N
 
 -- the outcome of a read that failed so: it gave nothing if it was broken off or would have waited; otherwise the
 -- session is over
-abbrev pub failed_read : ErrorKind → Result ℕ SessionEnd
-failed_read Interrupted = Ok 0
-failed_read WouldBlock = Ok 0
+abbrev pub failed_read : ErrorKind → Result (Unit {0}) SessionEnd
+failed_read Interrupted = Ok tt
+failed_read WouldBlock = Ok tt
 failed_read kind = Err ends.ReadFault
-
--- a read took this count of bytes of the input into the feeder, and they were heard; or none
-abbrev pub IsPiece : Option (List ℕ) → Option (List ℕ) → Option (List ℕ) → Option (List ℕ) → Stream → Stream → Result ℕ SessionEnd → Type 0
-IsPiece input rest heard after old new (Ok len) = TakesIn input rest heard after old new len
-IsPiece input rest heard after old new (Err end) = Consumes input rest [] × Keeps heard after × (end ≡ ends.Shut → ⊥)
 
 -- The history goes on from what a desk had seen, and meanwhile the desk handed in these events, in order.
 abbrev pub Adds : ℕ → List Step → List Entry → List Entry → Type 0
@@ -198,16 +193,8 @@ ends_by (Failed kind) = Some ends.ReadFault
 abbrev pub AsksOnce : Option (List Answer) → Option (List Answer) → Option SessionEnd → Type 0
 AsksOnce old new says = (answer : Answer) × Answered old new answer × (ends_by answer ≡ says)
 
--- a piece came; or the session is over because the source said so, or because there was no memory for a piece, and then
--- the source wasn't asked
-abbrev pub AsksForPiece : Option (List Answer) → Option (List Answer) → Result ℕ SessionEnd → Type 0
-AsksForPiece old new (Ok count) = AsksOnce old new None
-AsksForPiece old new (Err ends.Ended) = AsksOnce old new (Some ends.Ended)
-AsksForPiece old new (Err ends.ReadFault) = AsksOnce old new (Some ends.ReadFault)
-AsksForPiece old new (Err ends.Memory) = Unasked old new
-AsksForPiece old new (Err end) = ⊥
-
--- no piece is asked for if whole units may be left
+-- No piece is asked for if whole units may be left. Otherwise a piece came; or the session is over because the source
+-- said so, or because there was no memory for a piece, and then the source wasn't asked.
 abbrev pub AsksToFill : Bool → Option (List Answer) → Option (List Answer) → Result (Unit {0}) SessionEnd → Type 0
 AsksToFill true old new (Ok done) = Unasked old new
 AsksToFill true old new (Err end) = ⊥

@@ -157,7 +157,7 @@ impl<'s, K: BookName, R: Wait + Clock, G: Gate> Applier<'s, K, R, G> {
     {
         // Modelled in models/jobs.pml.
         self.around.gate.pass(self.around.rt, self.slot, index);
-        if self.around.shared.as_gearmand() {
+        if self.around.shared.as_gearmand {
             return self.apply_meant(desk, event, effects);
         }
         // The event is large, so it isn't moved.

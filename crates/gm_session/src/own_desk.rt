@@ -76,11 +76,4 @@ impl<K: BookName> OwnDesk<K> {
         let receipt = self.apply(rt, shared, Event::Open { addr }, effects)?;
         Ok(receipt.done.opened)
     }
-
-    /// The number of the desk, which is its slot's; the control desk has the number after the last slot's.
-    pub fn number(&self) -> u32
-        ensures { result ≡ self.now.desk.number }
-    {
-        self.desk.number()
-    }
 }

@@ -3,7 +3,7 @@
 ghost use Rattle.std.specs.Prelude.{◌≡◌, ◌^◌, ◌-◌, ◌<◌, ◌≤◌, true, false, [], None, IfErr};
 ghost use Rattle.std.specs.Io.KnownBytes.{IsAtEnd};
 ghost use Rattle.std.specs.IoError.{error_kind};
-ghost use Rattle.gm_session.specs.Sessions.{failed_read, ends_whole, IsPiece, Fills, AsksForPiece, AsksToFill};
+ghost use Rattle.gm_session.specs.Sessions.{failed_read, ends_whole, Fills, AsksToFill};
 
 use gm_feeder::{Feeder, Limits, ReadError, Source};
 use std::alloc::Global;
@@ -104,39 +104,23 @@ impl Session {
         if self.has_units {
             return Ok(());
         }
-        read_piece(&mut self.feeder, source, by)?;
-        Ok(())
+        match self.feeder.read_from(source, by) {
+            Ok(0) => Err(SessionEnd::Ended),
+            Ok(_) => Ok(()),
+            Err(ReadError::Feed(_)) => Err(SessionEnd::Memory),
+            Err(ReadError::Read(error)) => failed_read(&error),
+        }
     }
 }
 
 /// The outcome of a read that failed: it gave nothing if it was broken off or would have waited; otherwise the session
 /// is over.
-fn failed_read(error: &Error) -> Result<usize, SessionEnd>
+fn failed_read(error: &Error) -> Result<(), SessionEnd>
     ensures { result ≡ failed_read (error_kind error.now) }
 {
     // Modelled in models/polling.pml.
     match error.kind() {
-        ErrorKind::Interrupted | ErrorKind::WouldBlock => Ok(0),
+        ErrorKind::Interrupted | ErrorKind::WouldBlock => Ok(()),
         _ => Err(SessionEnd::ReadFault),
-    }
-}
-
-/// Reads the next piece into the feeder, and answers how many bytes it has; or it says why the session is over.
-fn read_piece<E, S: Source<E>>(
-    feeder: &mut Feeder,
-    source: &mut S,
-    by: &E,
-) -> Result<usize, SessionEnd>
-    ensures piece { IsPiece (S.remaining source.old) (S.remaining source.new) (S.heard source.old) (S.heard source.new) feeder.old feeder.new result }
-    ensures ended { IfErr result (λ end. end ≡ SessionEnd.Ended → IsAtEnd (S.remaining source.new)) }
-    ensures asks { AsksForPiece (S.answers source.old) (S.answers source.new) result }
-    ensures socket { S.socket source.new ≡ S.socket source.old }
-{
-    // Modelled in models/polling.pml.
-    match feeder.read_from(source, by) {
-        Ok(0) => Err(SessionEnd::Ended),
-        Ok(len) => Ok(len),
-        Err(ReadError::Feed(_)) => Err(SessionEnd::Memory),
-        Err(ReadError::Read(error)) => failed_read(&error),
     }
 }

@@ -167,7 +167,7 @@ fn step_on<K: BookName, R: Wait + Clock, G: Gate>(
 {
     let applier = Applier {
         around,
-        slot: desk.number(),
+        slot: desk.desk.number(),
         peer: &talking.peer,
     };
     let outcome = applier.step(
@@ -213,13 +213,6 @@ impl<K: BookName> Talk<K> {
             closings: 0,
             ledger,
         })
-    }
-
-    /// The number of the slot.
-    pub fn number(&self) -> u32
-        ensures { result ≡ self.now.number }
-    {
-        self.desk.number()
     }
 
     /// Lends the reading side of the slot, for a connection that is about to come: `begin` or `refuse` takes it back.
@@ -389,7 +382,7 @@ impl<K: BookName> Talk<K> {
         ensures memory { NeedsNoMemory K.taped (Close self.old.number) → IsErrOf result ApplyError.Memory → ⊥ }
     {
         // Modelled in models/serving.h.
-        let slot = self.desk.number();
+        let slot = self.desk.desk.number();
         let answer = self.desk.apply(rt, shared, Event::Close { slot }, effects);
         if answer.is_ok() {
             self.closings = self.closings.saturating_add(1);
@@ -414,7 +407,7 @@ impl<K: BookName> Talk<K> {
         ensures memory { NeedsNoMemory K.taped (Close self.old.number) → IsErrOf result ApplyError.Memory → ⊥ }
     {
         // Modelled in models/serving.h.
-        let slot = self.desk.number();
+        let slot = self.desk.desk.number();
         let answer = self.desk.apply(rt, shared, Event::Close { slot }, effects);
         if answer.is_ok() {
             self.closings = self.closings.saturating_add(1);

@@ -39,7 +39,8 @@ pub struct Shared<K: BookName> {
     pub(crate) table: SleepTable,
     pub(crate) history: History,
     pub(crate) book: Mutex<Guarded<K>>,
-    as_gearmand: bool,
+    /// Whether requests mean what gearmand's applications mean by them.
+    pub as_gearmand: bool,
     ghost named: { table ≡ K.table },
     ghost historic: { history ≡ K.history },
     ghost meant: { as_gearmand ≡ K.settings.as_gearmand },
@@ -108,13 +109,6 @@ impl<K: BookName> Shared<K> {
             as_gearmand,
         };
         Ok((shared, desks, pens, control))
-    }
-
-    /// Whether requests mean what gearmand's applications mean by them. It takes no lock.
-    pub fn as_gearmand(&self) -> bool
-        ensures { result ≡ K.settings.as_gearmand }
-    {
-        self.as_gearmand
     }
 
     /// Takes the book's lock. It is held for about a microsecond, so a thread looks for a while whether it is free,

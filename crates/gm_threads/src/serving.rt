@@ -62,8 +62,8 @@ impl<K: BookName> ServerState<K> {
         }
     }
 
-    /// Reads once from the connection: a piece, whose units a turn takes, or, after the session is over, bytes that are
-    /// dropped. It says whether more may come.
+    /// Reads once from the connection: a piece, whose units a turn takes, of whose effects others are notified; or, after
+    /// the session is over, bytes that are dropped. It says whether more may come.
     fn read<R: Wait + Clock, G: Gate>(
         &self,
         rt: &R,
@@ -80,7 +80,18 @@ impl<K: BookName> ServerState<K> {
             talk.cut(SessionEnd::Stopped);
             Err(SessionEnd::Stopped)
         } else {
-            self.step(rt, gate, talk, patience)
+            let around = Around {
+                alloc: self.alloc,
+                rt,
+                shared: &self.shared,
+                gate,
+                host: Some(&self.host),
+            };
+            let mut effects = Effects::new();
+            let outcome = talk.step(&around, &patience, &mut effects);
+            self.notify(rt, Some(slot.lane.number()), &mut effects);
+            effects.discharge();
+            outcome
         };
         match outcome {
             Ok(()) => true,
@@ -98,32 +109,6 @@ impl<K: BookName> ServerState<K> {
                 discard(talk, patience)
             }
         }
-    }
-
-    /// Goes on with the session, and notifies others of the effects of its units. If the session is over, it says why.
-    fn step<R: Wait + Clock, G: Gate>(
-        &self,
-        rt: &R,
-        gate: &G,
-        talk: &mut Talk<K>,
-        patience: Patience,
-    ) -> Result<(), SessionEnd>
-        requires { is_reading talk.old.talking ≡ true }
-        ensures { IfErr result (λ end. IsOverAs (ends_whole end) talk.new.talking) }
-    {
-        // Modelled in models/polling.pml and serving.h.
-        let around = Around {
-            alloc: self.alloc,
-            rt,
-            shared: &self.shared,
-            gate,
-            host: Some(&self.host),
-        };
-        let mut effects = Effects::new();
-        let outcome = talk.step(&around, &patience, &mut effects);
-        self.notify(rt, Some(talk.number()), &mut effects);
-        effects.discharge();
-        outcome
     }
 
     /// Ends a connection whose session is over, and from which nothing is read any more.

@@ -141,11 +141,18 @@ impl<K: BookName> ServerState<K> {
 
     /// Delivers to a slot that has something due, unless another thread does; or leaves that to its finisher, if it
     /// is late.
-    fn touch<R: Wait + Clock>(&self, context: &DeliveryContext<'_, K, R>, due: Due, is_late: bool)
-        requires { due.slot < K.settings.slots }
+    fn touch<R: Wait + Clock>(
+        &self,
+        context: &DeliveryContext<'_, K, R>,
+        number: u32,
+        due: Due,
+        is_late: bool,
+    )
+        requires slot { due.slot ≡ number }
+        requires within { number < K.settings.slots }
     {
         // Modelled in models/deliver.pml.
-        let Some(slot) = self.slot(due.slot()) else {
+        let Some(slot) = self.slot(number) else {
             unreachable!()
         };
         let leftover = if is_late {
@@ -187,7 +194,7 @@ impl<K: BookName> ServerState<K> {
         if let Some(number) = own
             && let Some(due) = effects.take(number)
         {
-            self.touch(&context, due, false);
+            self.touch(&context, number, due, false);
         }
         // For one slot the clock isn't read.
         let mut begun = None;
@@ -195,8 +202,9 @@ impl<K: BookName> ServerState<K> {
         while let Some(due) = effects.take_next(from) {
             let time = Duration::from_millis(DELIVERING_TIME_MS);
             let is_late = from > 0 && has_passed(rt, &mut begun, time);
-            from = due.slot() + 1;
-            self.touch(&context, due, is_late);
+            let number = due.slot();
+            from = number + 1;
+            self.touch(&context, number, due, is_late);
         }
     }
 
