@@ -34,20 +34,14 @@ const ENFILE: i32 = 23;
 /// The error of a socket that doesn't listen in this way (accept(2)).
 const EOPNOTSUPP: i32 = 95;
 
-/// Has `accept` return if no connection comes for a while.
-pub(crate) fn set_accept_timeout(listener: &TcpListener) -> io::Result<()> {
-    let same = listener.try_clone()?;
-    TcpStream::from(OwnedFd::from(same)).set_read_timeout(Some(Duration::from_millis(
-        ACCEPT_TIMEOUT_MS,
-    )))
-}
-
-/// Sets up an accepted socket, which has its listener's timeout at first.
-fn prepare(stream: &TcpStream, peer_timeout: u16) -> io::Result<()> {
-    stream.set_read_timeout(None)?;
-    stream.set_write_timeout(Some(Duration::from_millis(AGAIN_MS)))?;
-    set_peer_timeout(stream, peer_timeout);
-    stream.set_nodelay(true)
+/// Sets up a listener: `accept` returns if no connection comes for a while, and a socket that it gives has the other
+/// options from the start, as the system hands them down.
+pub(crate) fn prepare_listener(listener: &TcpListener, peer_timeout: u16) -> io::Result<()> {
+    let same = TcpStream::from(OwnedFd::from(listener.try_clone()?));
+    same.set_read_timeout(Some(Duration::from_millis(ACCEPT_TIMEOUT_MS)))?;
+    same.set_write_timeout(Some(Duration::from_millis(AGAIN_MS)))?;
+    set_peer_timeout(&same, peer_timeout);
+    same.set_nodelay(true)
 }
 
 /// Whether this error says that the listener itself failed. Other errors of `accept` come from one connection, or from
@@ -250,7 +244,8 @@ impl<'s, K: BookName + Send + Sync> Control<'s, K> {
         peer: SocketAddr,
     ) {
         // Modelled in models/ticks.pml.
-        let Ok(()) = prepare(&stream, self.state.peer_timeout) else {
+        // Its listener's timeout is for `accept`.
+        let Ok(()) = stream.set_read_timeout(None) else {
             return;
         };
         let speaker = &self.state.host.speaker;

@@ -4,7 +4,7 @@ ghost use Rattle.std.specs.Prelude.{◌≡◌, IfOk, IsOk};
 ghost use Rattle.gm_shared.specs.Tapes.{is_on};
 ghost use Rattle.gm_slots.specs.Served.{SettledSo, EndsSo};
 
-use crate::accepting::{Control, set_accept_timeout};
+use crate::accepting::{Control, prepare_listener};
 use crate::crews::Crews;
 use crate::settings::Settings;
 use crate::state::ServerState;
@@ -154,7 +154,7 @@ pub fn serve_with<R: Threads + Wait + Clock + Sync, G: Gate, W: Write>(
     ensures { IfOk result (EndsSo settings.config settings.tape service.limits) }
 {
     let Settings { config, tape, .. } = settings;
-    let Ok(()) = set_accept_timeout(&service.listener) else {
+    let Ok(()) = prepare_listener(&service.listener, service.peer_timeout) else {
         return Err(ServeError::Listen);
     };
     let blank = Blank::new(alloc, service.seed, config, mode(tape))?;

@@ -27,7 +27,6 @@ use std::time::{Clock, Duration};
 pub(crate) struct ServerState<K: BookName> {
     pub(crate) alloc: Global,
     pub(crate) listener: TcpListener,
-    pub(crate) peer_timeout: u16,
     pub(crate) crews: Crews,
     // How large a unit may be.
     pub(crate) limits: Limits,
@@ -63,7 +62,6 @@ impl<K: BookName> ServerState<K> {
         let Service {
             listener,
             limits,
-            peer_timeout,
             crews,
             speaker,
             ..
@@ -72,7 +70,6 @@ impl<K: BookName> ServerState<K> {
         let state = ServerState {
             alloc,
             listener,
-            peer_timeout,
             crews,
             limits,
             shared,
