@@ -10,7 +10,8 @@
  * accepted, and accept fails with the error of FAIL_ERROR. Where it is types, no call fails: before each send that descriptor gets a
  * byte, the type of the packet with which the sent bytes begin. Where it is sends, no call fails: before each send that descriptor gets
  * two numbers of four bytes, which thread sends and how many bytes. Where it is hasty, no call fails, that clock goes on by 20
- * milliseconds whenever it is read, and if there is such a descriptor, it gets these numbers too.
+ * milliseconds whenever it is read, and if there is such a descriptor, it gets these numbers too. Where it is naps, no call fails, that
+ * clock stands, and before each pause of a thread that descriptor gets a byte.
  *
  * A test asks for it itself: a growth to 2^47 + N bytes, which succeeds nowhere else, has the Nth growth after it refused, and
  * one to 2^47 bytes ends that, and succeeds where one was refused. */
@@ -24,8 +25,8 @@ extern long syscall(long, ...);
 extern char *getenv(const char *);
 extern int *__errno_location(void);
 
-enum { NONE, GROWTH, LATE, READ, WRITE, SEND, SETTING, SEED, ACCEPT, ABORTED, OPTIONS, STEADY, CLOCK, HASTY, TYPES, SENDS };
-enum { SYS_READ = 0, SYS_WRITE = 1, SYS_CLOSE = 3, SYS_PREAD = 17, SYS_WRITEV = 20, SYS_SENDTO = 44, SYS_RECVFROM = 45,
+enum { NONE, GROWTH, LATE, READ, WRITE, SEND, SETTING, SEED, ACCEPT, ABORTED, OPTIONS, STEADY, CLOCK, HASTY, TYPES, SENDS, NAPS };
+enum { SYS_READ = 0, SYS_WRITE = 1, SYS_CLOSE = 3, SYS_PREAD = 17, SYS_WRITEV = 20, SYS_NANOSLEEP = 35, SYS_SENDTO = 44, SYS_RECVFROM = 45,
        SYS_SENDMSG = 46, SYS_SETSOCKOPT = 54, SYS_GETSOCKOPT = 55, SYS_GETTID = 186, SYS_CLOCK_GETTIME = 228, SYS_ACCEPT4 = 288,
        SYS_GETRANDOM = 318 };
 enum { SOL_SOCKET = 1, SO_KEEPALIVE = 9, IPPROTO_TCP = 6, TCP_NODELAY = 1, TCP_KEEPIDLE = 4, TCP_KEEPINTVL = 5, TCP_KEEPCNT = 6,
@@ -62,13 +63,13 @@ static const char *after(const char *text, const char *word) {
 
 __attribute__((constructor)) static void read_settings(void) {
     static const char *const KINDS[] = {"", "growth:", "late:", "read:", "write:", "send:", "setting:", "seed:", "accept:", "aborted:",
-                                        "options", "steady", "clock", "hasty", "types", "sends"};
+                                        "options", "steady", "clock", "hasty", "types", "sends", "naps"};
     const char *text = getenv("FAIL"), *number;
     if (getenv("FAIL_TOLD"))
         told = number_at(getenv("FAIL_TOLD"));
     if (getenv("FAIL_ERROR"))
         accept_error = number_at(getenv("FAIL_ERROR"));
-    for (int at = GROWTH; text && at <= SENDS; at++)
+    for (int at = GROWTH; text && at <= NAPS; at++)
         if ((number = after(text, KINDS[at]))) {
             left = number_at(number);
             for (; *number; number++)
@@ -183,6 +184,12 @@ int setsockopt(int fd, int level, int name, const void *value, unsigned size) {
     return fails(SETTING, EIO) ? -1 : syscall(SYS_SETSOCKOPT, fd, level, name, value, size);
 }
 
+int nanosleep(const void *time, void *rest) {
+    if (kind == NAPS)
+        syscall(SYS_WRITE, told, "x", 1);
+    return syscall(SYS_NANOSLEEP, time, rest);
+}
+
 int getentropy(void *bytes, size_t size) {
     if (fails(SEED, EIO))
         return -1;
@@ -216,11 +223,11 @@ int accept(int fd, void *address, void *size) {
 int clock_gettime(int clock, void *time) {
     static long hasty;
     long milliseconds = 0, *parts = time;
-    if ((kind != CLOCK && kind != HASTY) || clock != CLOCK_MONOTONIC)
+    if ((kind != CLOCK && kind != HASTY && kind != NAPS) || clock != CLOCK_MONOTONIC)
         return syscall(SYS_CLOCK_GETTIME, clock, time);
     if (kind == HASTY)
         milliseconds = __atomic_add_fetch(&hasty, 20, __ATOMIC_SEQ_CST);
-    else
+    else if (kind == CLOCK)
         syscall(SYS_PREAD, told, &milliseconds, sizeof milliseconds, 0l);
     parts[0] = milliseconds / 1000;
     parts[1] = milliseconds % 1000 * 1000000;

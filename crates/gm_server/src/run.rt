@@ -302,8 +302,8 @@ pub(crate) fn outcome_of<
 }
 
 /// Runs the program on its arguments (the first is its name) with this standard output, and answers the status that it
-/// is to end with (`status_of`). The options are those of gearmand(8) of the same names, `--io-threads`,
-/// `--peer-timeout`, `--tape` and `--check`.
+/// is to end with (`status_of`). `--port`, `--listen`, `--job-retries` and `--round-robin` are named as in gearmand(8);
+/// the others are this program's own.
 pub fn run_words<
     S: AsStr,
     R: Threads

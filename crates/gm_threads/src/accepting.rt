@@ -16,7 +16,7 @@ use gm_session::{Gate, SessionEnd};
 use gm_shared::{BookName, Pairing};
 use gm_slots::Slot;
 use gm_socket::{Halves, LoggedWriter, Socket};
-use gm_time::{ACCEPT_TIMEOUT_MS, AGAIN_MS, VISITING_TIME_MS};
+use gm_time::{ACCEPT_TIMEOUT_MS, AGAIN_MS, FULL_TIME_MS, VISITING_TIME_MS, now_ms};
 use libc::{EBADF, EINVAL, EMFILE, ENOTSOCK};
 use std::alloc::{AllocError, Global};
 use std::io::{ErrorKind, Write};
@@ -108,6 +108,8 @@ pub(crate) struct Control<'s, K: BookName> {
     pairing: Pairing<K>,
     /// The second in which the server's status was last reported.
     told: u64,
+    /// Until when a connection for which there is no slot is refused at once.
+    full_until_ms: u64,
 }
 
 impl<'s, K: BookName + Send + Sync> Control<'s, K> {
@@ -116,6 +118,7 @@ impl<'s, K: BookName + Send + Sync> Control<'s, K> {
             state,
             pairing,
             told: 0,
+            full_until_ms: 0,
         }
     }
 
@@ -194,12 +197,24 @@ impl<'s, K: BookName + Send + Sync> Control<'s, K> {
     }
 
     /// Opens a slot for a connection. With I/O threads slots may be taken by connections that are gone, and that no
-    /// thread has visited yet: if there is no slot, the threads have a moment for that, and it is tried once more.
-    fn find_slot<R: Wait + Clock>(&self, rt: &R, addr: &[u8]) -> Result<Option<u32>, ApplyError> {
+    /// thread has visited yet: if there is no slot, the threads have a moment for that, and it is tried once more. Once
+    /// that was in vain, connections are refused at once for a while, as a flood of them would wait one after another.
+    fn find_slot<R: Wait + Clock>(
+        &mut self,
+        rt: &R,
+        addr: &[u8],
+    ) -> Result<Option<u32>, ApplyError> {
         let opened = self.open_slot(rt, addr);
-        if matches!(opened, Err(ApplyError::NoSlot)) && self.state.crews.are_few() {
-            thread::sleep(rt, Duration::from_millis(VISITING_TIME_MS));
-            return self.open_slot(rt, addr);
+        if !matches!(opened, Err(ApplyError::NoSlot))
+            || !self.state.crews.are_few()
+            || now_ms(rt) < self.full_until_ms
+        {
+            return opened;
+        }
+        thread::sleep(rt, Duration::from_millis(VISITING_TIME_MS));
+        let opened = self.open_slot(rt, addr);
+        if matches!(opened, Err(ApplyError::NoSlot)) {
+            self.full_until_ms = now_ms(rt).saturating_add(FULL_TIME_MS);
         }
         opened
     }

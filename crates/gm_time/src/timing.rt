@@ -25,6 +25,9 @@ pub const ACCEPT_TIMEOUT_MS: u64 = 50;
 /// For how long I/O threads may visit connections that are gone, before one that came is refused as there is no slot.
 pub const VISITING_TIME_MS: u64 = 10;
 
+/// For how long connections are refused without that wait, once it gave no slot: each slot has a connection that stays.
+pub const FULL_TIME_MS: u64 = 100;
+
 /// How long a thread goes on writing to others. The slots' finishers do the rest.
 pub const DELIVERING_TIME_MS: u64 = 10;
 
