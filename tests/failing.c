@@ -13,7 +13,7 @@
  * milliseconds whenever it is read, and if there is such a descriptor, it gets these numbers too. Where it is naps, no call fails, that
  * clock stands, and before each pause of a thread that descriptor gets a byte.
  *
- * A test asks for it itself: a growth to 2^47 + N bytes, which succeeds nowhere else, has the Nth growth after it refused, and
+ * gm_trials asks for it itself: a growth to 2^47 + N bytes, which succeeds nowhere else, has the Nth growth after it refused, and
  * one to 2^47 bytes ends that, and succeeds where one was refused. */
 
 typedef unsigned long size_t;
@@ -120,7 +120,7 @@ static void tell_send(size_t size) {
     syscall(SYS_WRITE, told, numbers, sizeof numbers);
 }
 
-/* A test asks. */
+/* gm_trials asks. */
 static int is_granted(size_t number) {
     kind = number ? GROWTH : NONE;
     if (!number)

@@ -3,7 +3,6 @@
 
 ghost use Rattle.std.specs.Prelude.{IsTrue};
 
-use gm_bytes::ByteQueue;
 use std::fmt::Debug;
 use std::process::Abort;
 
@@ -12,14 +11,6 @@ pub fn must(rt: &impl Abort, holds: bool)
     ensures { IsTrue holds }
 {
     assert!(rt; holds);
-}
-
-/// All these bytes lie in one place, so that the first of them are all.
-pub fn assert_one_place(rt: &impl Abort, bytes: ByteQueue) {
-    let mut rest = bytes;
-    let count = rest.first().len();
-    rest.advance(count);
-    must(rt, rest.is_empty());
 }
 
 /// The test fails if these aren't the same, and says at what.
