@@ -1,5 +1,6 @@
 """Databases, gmd-tables and workers: what tests/table runs."""
 import contextlib
+import copy
 import os
 import pathlib
 import pwd
@@ -36,6 +37,8 @@ def postgres():
 class PostgreSQL:
     """A server of its own, on a socket in its folder."""
     kind = "postgresql"
+    # What makes a table one of version 1.
+    version_1 = ("ALTER TABLE gearman_jobs_version DROP COLUMN identity, DROP COLUMN home", "UPDATE gearman_jobs_version SET version = 1")
 
     def __init__(self):
         self.folder = pathlib.Path(tempfile.mkdtemp(prefix="gmd-table-"))
@@ -94,7 +97,24 @@ class PostgreSQL:
     def empty(self):
         """The table as it is at first."""
         self.ask("DROP TABLE IF EXISTS gearman_jobs, gearman_jobs_version")
+        self.apply()
+
+    def apply(self):
+        """Applies the schema."""
         self.ask(schema(self.kind))
+
+    def copied(self, name, template="postgres"):
+        """A new database, which is a copy of this one."""
+        self.ask(f"CREATE DATABASE {name} TEMPLATE {template}")
+        return at(self, self.address.replace("dbname=postgres", f"dbname={name}"))
+
+    def neighbours(self):
+        """Empty tables of another database and of another schema."""
+        self.ask("CREATE SCHEMA blog")
+        found = [self.copied("shop", "template1"), at(self, f"{self.address} options='-c search_path=blog'")]
+        for other in found:
+            other.apply()
+        return found
 
     def later(self, seconds):
         """The time in so many seconds, as SQL."""
@@ -108,6 +128,7 @@ class PostgreSQL:
 class SQLite:
     """A file."""
     kind = "sqlite"
+    version_1 = ("DROP TABLE gearman_jobs_identity", "UPDATE gearman_jobs_version SET version = 1")
 
     def __init__(self):
         self.address = str(ROOM_PATH / "table.db")
@@ -132,14 +153,32 @@ class SQLite:
     def empty(self):
         for ending in ("", "-wal", "-shm"):
             pathlib.Path(self.address + ending).unlink(missing_ok=True)
+        self.apply()
+
+    def apply(self):
         with contextlib.closing(self.connect()) as connection:
             connection.executescript(schema(self.kind))
+
+    def copied(self, name):
+        self.ask("PRAGMA wal_checkpoint(TRUNCATE)")
+        return at(self, shutil.copyfile(self.address, str(ROOM_PATH / f"{name}.db")))
+
+    def neighbours(self):
+        """A copy of an empty table that no gmd-table has used."""
+        return [self.copied("shop")]
 
     def later(self, seconds):
         return f"strftime('%Y-%m-%d %H:%M:%f', 'now', '{seconds} seconds')"
 
     def seconds(self, first, last):
         return f"(julianday({last}) - julianday({first})) * 86400"
+
+
+def at(database, address):
+    """A table that is reached so."""
+    other = copy.copy(database)
+    other.address = address
+    return other
 
 
 def run(*arguments, status=0):

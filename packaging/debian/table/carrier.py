@@ -32,8 +32,7 @@ def packet(kind, data):
 
 def head_of(row):
     """What comes before the data in a row's packet."""
-    unique = row.unique if row.unique not in (b"", b"-") else b"table-%d" % row.id
-    return row.function + b"\0" + unique + b"\0"
+    return row.function + b"\0" + row.unique + b"\0"
 
 
 class Link:

@@ -1,5 +1,6 @@
 """What the commands beside `run` do: they print and change rows."""
 import json
+import secrets
 
 # Rows that `purge` deletes at once, so that no lock is held for long.
 PURGED = 10_000
@@ -56,6 +57,13 @@ def change(store, options):
     else:
         print(f"{len(changed)} rows changed" + (f"; these are left as they are: {' '.join(map(str, left))}" if left else ""))
     return 1 if left else 0
+
+
+def identify(store, options):
+    """Has the table an identity of its own where it is now, or keep the one that it has."""
+    identity = store.identify(None if options.moved else secrets.token_hex(6))
+    print(json.dumps({"identity": identity}) if options.json else f"a row's unique id is table-{identity}-ID, unless the row has one")
+    return 0
 
 
 def purge(store, options):

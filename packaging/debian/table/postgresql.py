@@ -4,8 +4,8 @@ import select
 import psycopg2
 import psycopg2.extras
 
-from rows import Row
-from schema import COLUMNS, SIZES, SchemaError, check_version
+from rows import Row, unique_of
+from schema import COLUMNS, HOME, SIZES, SchemaError, WrongHome, check_version
 
 # Each statement goes by an index, also before the first statistics of a table exist.
 SETTINGS = "; ".join(f"SET {name} = off" for name in ("enable_seqscan", "enable_bitmapscan", "enable_hashjoin", "enable_mergejoin",
@@ -74,6 +74,7 @@ class PostgreSQL:
         is_name = "=" not in database and "/" not in database
         self.address, self.options = {"dbname": database} if is_name else {"dsn": database}, options
         self.connection = None
+        self.identity = None
 
     def open(self):
         """Connects, and listens for new rows if it is to run."""
@@ -87,6 +88,7 @@ class PostgreSQL:
         try:
             self.check_schema()
             if self.options:
+                self.check_home()
                 self.ask(SETTINGS)
                 self.ask("LISTEN gearman_jobs")
         except BaseException:
@@ -112,6 +114,12 @@ class PostgreSQL:
         [[is_there]] = self.ask("SELECT to_regclass('gearman_jobs_version') IS NOT NULL AND to_regclass('gearman_jobs') IS NOT NULL")
         check_version(self.ask("SELECT max(version) FROM gearman_jobs_version")[0][0] if is_there else None, "postgresql")
 
+    def check_home(self):
+        """Whether the table is where it got its identity."""
+        [[self.identity, is_home]] = self.ask(f"SELECT identity, home IS NOT DISTINCT FROM {HOME} FROM gearman_jobs_version")
+        if not is_home:
+            raise WrongHome
+
     def is_of_row(self, error):
         """Whether a row may be at fault, and not the database."""
         return not self.connection.closed and error.pgcode is not None and not error.pgcode.startswith(OF_DATABASE)
@@ -126,8 +134,9 @@ class PostgreSQL:
         """Takes rows of this priority that are due: of each function at most this many, with at most this many bytes in all, or one."""
         found = self.ask(CLAIM, {"functions": list(rooms), "rooms": list(rooms.values()), "priority": priority, "max_bytes": max_bytes,
                                  "max_data": self.options.max_data, "holder": self.options.holder, "lease": self.options.lease})
-        return [Row(id_, claims, function.encode(), (unique or "").encode(), level, attempts, most, None if data is None else bytes(data),
-                    size, due) for id_, claims, function, unique, level, attempts, most, data, size, due in found]
+        return [Row(id_, claims, function.encode(), unique_of((unique or "").encode(), self.identity, id_), level, attempts, most,
+                    None if data is None else bytes(data), size, due)
+                for id_, claims, function, unique, level, attempts, most, data, size, due in found]
 
     def write(self, outcomes):
         """Writes what became of rows. The ids of those that this gmd-table still had, with their seconds since they were due."""
@@ -186,6 +195,11 @@ class PostgreSQL:
         return {id_ for [id_] in self.ask("""
             UPDATE gearman_jobs SET state = 'failed', error = 'cancelled', ended_at = now(), holder = NULL, lease = NULL, server = NULL,
             handle = NULL WHERE id = ANY(%s) AND state IN ('waiting', 'running') RETURNING id""", [ids])}
+
+    def identify(self, identity):
+        """Has the table this identity, or keep its own if this is None, where it is now."""
+        self.ask(f"UPDATE gearman_jobs_version SET identity = coalesce(%s, identity), home = {HOME}", [identity])
+        return self.ask("SELECT identity FROM gearman_jobs_version")[0][0]
 
     def bounds(self):
         """The least and the greatest id."""

@@ -15,7 +15,7 @@ class Row:
     id: int
     claims: int
     function: bytes
-    unique: bytes
+    unique: bytes  # the job's
     priority: str
     attempts: int
     max_attempts: int
@@ -46,6 +46,11 @@ class Outcome:
     def size(self):
         """About how many bytes the database gets."""
         return len(self.result or b"") + 200
+
+
+def unique_of(unique, identity, id_):
+    """A job's unique id: the row's own, or one that no row of another table has."""
+    return unique if unique not in (b"", b"-") else b"table-%s-%d" % (identity.encode(), id_)
 
 
 def text_of(data):

@@ -1,20 +1,27 @@
-"""The table's SQL. It can be applied again, and has a version, from which a later one will migrate."""
-VERSION = 1
+"""The table's SQL. It can be applied again, and migrates from an earlier version."""
+VERSION = 2
 # What `list` prints of a row, besides the sizes of its data and result.
 COLUMNS = ("id", "function", "state", "priority", "unique_id", "run_at", "retry_at", "attempts", "max_attempts", "losses", "claims",
            "holder", "lease", "server", "handle", "error", "created_at", "claimed_at", "ended_at")
 SIZES = ("data_bytes", "result_bytes")
 
-POSTGRESQL = """\
--- The table of gmd-table, version 1, for PostgreSQL 12 or later. Applied again, it changes nothing.
+# Where the table is. A copy of the database or of the table is elsewhere.
+HOME = """concat_ws('/', (SELECT system_identifier FROM pg_control_system()),
+    (SELECT oid FROM pg_database WHERE datname = current_database()), 'gearman_jobs'::regclass::oid)"""
+
+POSTGRESQL = f"""\
+-- The table of gmd-table, version {VERSION}, for PostgreSQL 12 or later. Applied again, it changes nothing.
 BEGIN;
 SET LOCAL client_min_messages = warning;
 CREATE TABLE IF NOT EXISTS gearman_jobs_version (version integer NOT NULL);
 DO $$ BEGIN
-    IF EXISTS (SELECT FROM gearman_jobs_version WHERE version > 1) THEN
-        RAISE EXCEPTION 'the table gearman_jobs is of a later version than 1';
+    IF EXISTS (SELECT FROM gearman_jobs_version WHERE version > {VERSION}) THEN
+        RAISE EXCEPTION 'the table gearman_jobs is of a later version than {VERSION}';
     END IF;
 END $$;
+ALTER TABLE gearman_jobs_version
+    ADD COLUMN IF NOT EXISTS identity text, -- no other table has it: the unique ids of jobs have it, so that servers don't mix them up
+    ADD COLUMN IF NOT EXISTS home text;     -- where the table got it: PostgreSQL's system, the database and the table
 
 CREATE TABLE IF NOT EXISTS gearman_jobs (
     -- What an application inserts. Only the function has to be given.
@@ -52,7 +59,9 @@ END $$;
 DROP TRIGGER IF EXISTS gearman_jobs_notify ON gearman_jobs;
 CREATE TRIGGER gearman_jobs_notify AFTER INSERT ON gearman_jobs FOR EACH STATEMENT EXECUTE FUNCTION gearman_jobs_notify();
 
-INSERT INTO gearman_jobs_version SELECT 1 WHERE NOT EXISTS (SELECT FROM gearman_jobs_version);
+INSERT INTO gearman_jobs_version (version) SELECT {VERSION} WHERE NOT EXISTS (SELECT FROM gearman_jobs_version);
+UPDATE gearman_jobs_version SET version = {VERSION}, identity = to_hex((random() * (1::bigint << 48))::bigint),
+    home = {HOME} WHERE identity IS NULL;
 COMMIT;
 """
 
@@ -61,10 +70,13 @@ COMMIT;
 SQLITE_NOW = "strftime('%Y-%m-%d %H:%M:%f', 'now')"
 
 SQLITE = f"""\
--- The table of gmd-table, version 1, for SQLite 3.35 or later. Applied again, it changes nothing. Times are in UTC, as datetime('now').
+-- The table of gmd-table, version {VERSION}, for SQLite 3.35 or later. Applied again, it changes nothing. Times are in UTC, as datetime('now').
 PRAGMA journal_mode = WAL;
 BEGIN IMMEDIATE;
 CREATE TABLE IF NOT EXISTS gearman_jobs_version (version INTEGER NOT NULL);
+-- No other table has the identity: the unique ids of jobs have it, so that servers don't mix them up. The first gmd-table makes it. The
+-- home is where it was made: the machine, and the file's path.
+CREATE TABLE IF NOT EXISTS gearman_jobs_identity (identity TEXT NOT NULL, home TEXT NOT NULL);
 
 CREATE TABLE IF NOT EXISTS gearman_jobs (
     -- What an application inserts. Only the function has to be given.
@@ -96,7 +108,8 @@ CREATE INDEX IF NOT EXISTS gearman_jobs_waiting ON gearman_jobs (function, prior
     WHERE state = 'waiting';
 CREATE INDEX IF NOT EXISTS gearman_jobs_running ON gearman_jobs (lease) WHERE state = 'running';
 
-INSERT INTO gearman_jobs_version SELECT 1 WHERE NOT EXISTS (SELECT 1 FROM gearman_jobs_version);
+INSERT INTO gearman_jobs_version SELECT {VERSION} WHERE NOT EXISTS (SELECT 1 FROM gearman_jobs_version);
+UPDATE gearman_jobs_version SET version = {VERSION} WHERE version < {VERSION};
 COMMIT;
 """
 
@@ -105,9 +118,19 @@ class SchemaError(Exception):
     """The database has no table that this program can use."""
 
 
+class WrongHome(SchemaError):
+    """The table isn't where it got its identity."""
+
+    def __init__(self):
+        super().__init__("the table gearman_jobs is a copy, or was moved, and its jobs would have the unique ids of the original's: 'gmd-table "
+                         "identify DATABASE' gives it an identity of its own; if nobody uses the original any more, 'gmd-table identify "
+                         "--moved DATABASE' lets it keep this one")
+
+
 def check_version(version, kind):
     """Whether the table is there, and this program can use it. The version is None where there is no table."""
     if version is None:
         raise SchemaError(f"the database has no table gearman_jobs: gmd-table schema --{kind} prints it")
     if version != VERSION:
-        raise SchemaError(f"the table gearman_jobs is of version {version}, and this gmd-table needs version {VERSION}")
+        cure = f": what gmd-table schema --{kind} prints migrates it" if version < VERSION else ""
+        raise SchemaError(f"the table gearman_jobs is of version {version}, and this gmd-table needs version {VERSION}{cure}")

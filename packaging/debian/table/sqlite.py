@@ -1,11 +1,14 @@
 """The table in a file of SQLite, for one machine. Each time in it is by that machine's clock, in UTC."""
 import contextlib
+import os
+import pathlib
+import secrets
 import select
 import sqlite3
 import time
 
-from rows import Row
-from schema import COLUMNS, SIZES, SQLITE_NOW, check_version
+from rows import Row, unique_of
+from schema import COLUMNS, SIZES, SQLITE_NOW, WrongHome, check_version
 
 # Seconds, between which it looks whether another connection changed the file; and for which it waits for another one that writes.
 LOOK, BUSY = 0.05, 10
@@ -58,6 +61,7 @@ class SQLite:
     def __init__(self, path, options=None):
         self.path, self.options = path, options
         self.connection = None
+        self.identity = None
         self.version = None  # of the file, which changes when another connection writes it
         self.was_locked = False  # when ended leases were looked for last
 
@@ -71,6 +75,8 @@ class SQLite:
         self.connection.text_factory = bytes
         try:
             self.check_schema()
+            if self.options:
+                self.check_home()
         except BaseException:
             self.close()
             raise
@@ -106,6 +112,20 @@ class SQLite:
         [[count]] = self.ask("SELECT count(*) FROM sqlite_master WHERE name IN ('gearman_jobs', 'gearman_jobs_version')")
         check_version(self.ask("SELECT max(version) FROM gearman_jobs_version")[0][0] if count == 2 else None, "sqlite")
 
+    def home(self):
+        """Where the file is: two files have two paths, or are on two machines."""
+        machine = pathlib.Path("/etc/machine-id")
+        return f"{machine.read_text(encoding='ascii').strip() if machine.exists() else ''}:{os.path.realpath(self.path)}"
+
+    def check_home(self):
+        """Whether the file is where the table got its identity, which the first gmd-table makes: a copy made before has none yet."""
+        if not self.ask("SELECT 1 FROM gearman_jobs_identity"):
+            self.identify(None)
+        [[identity, home]] = self.ask("SELECT identity, home FROM gearman_jobs_identity")
+        self.identity = identity.decode()
+        if home.decode() != self.home():
+            raise WrongHome
+
     def is_of_row(self, error):
         """Whether a row may be at fault, and not the database."""
         return isinstance(error, (sqlite3.DataError, sqlite3.IntegrityError, sqlite3.ProgrammingError))
@@ -129,7 +149,7 @@ class SQLite:
                 if max_bytes < 0 and taken:
                     break
                 taken += self.ask(TAKE, (self.options.holder, str(self.options.lease), id_, max_data))
-        return [Row(id_, claims, function, unique or b"", level.decode(), attempts, most, data, size, due)
+        return [Row(id_, claims, function, unique_of(unique or b"", self.identity, id_), level.decode(), attempts, most, data, size, due)
                 for id_, claims, function, unique, level, attempts, most, data, size, due in taken]
 
     def write(self, outcomes):
@@ -214,6 +234,15 @@ class SQLite:
         return self.changed(f"""
             UPDATE gearman_jobs SET state = 'failed', error = 'cancelled', ended_at = {SQLITE_NOW}, holder = NULL, lease = NULL,
             server = NULL, handle = NULL WHERE id IN (IDS) AND state IN ('waiting', 'running') RETURNING id""", ids)
+
+    def identify(self, identity):
+        """Has the table this identity, or keep its own if this is None, where it is now."""
+        with self.writing():
+            kept = self.ask("SELECT identity FROM gearman_jobs_identity")
+            identity = identity or (kept[0][0].decode() if kept else secrets.token_hex(6))
+            self.ask("DELETE FROM gearman_jobs_identity")
+            self.ask("INSERT INTO gearman_jobs_identity VALUES (?, ?)", (identity, self.home()))
+        return identity
 
     def bounds(self):
         """The least and the greatest id."""
