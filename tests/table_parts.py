@@ -19,8 +19,8 @@ try:
 except ImportError:
     psycopg2 = None
 
-from loopback import (CAN_DO, GRAB_JOB_UNIQ, JOB_ASSIGN_UNIQ, NO_JOB, NOOP, PATIENCE, PRE_SLEEP, WORK_COMPLETE, Client, own_port, packet,
-                      within)
+from loopback import (CAN_DO, GRAB_JOB_UNIQ, JOB_ASSIGN_UNIQ, MEBIBYTE, NO_JOB, NOOP, OPTION_REQ, OPTION_RES, PATIENCE, PRE_SLEEP,
+                      WORK_COMPLETE, Client, kind_of, own_port, packet, within)
 from trials import ROOM_PATH, ROOT, Wrong
 
 PROGRAM = ROOT / "packaging/debian/gmd-table"
@@ -240,6 +240,51 @@ class Gmd:
     def __exit__(self, *_):
         self.kill()
         self.held.close()
+
+
+class Fake(threading.Thread):
+    """What answers as a server: OPTION_REQ, and each other packet by a function of its first MiB. If that returns None, the connection is
+    closed."""
+
+    def __init__(self, answer):
+        super().__init__(daemon=True)
+        self.answer, self.listener = answer, socket.create_server(("127.0.0.1", 0))
+        self.port = self.listener.getsockname()[1]
+        self.start()
+
+    def run(self):
+        """Serves connections one after another."""
+        while True:
+            try:
+                connection, _ = self.listener.accept()
+            except OSError:
+                return
+            with connection, contextlib.suppress(OSError):
+                self.serve(connection)
+
+    def serve(self, connection):
+        """One connection."""
+        came = b""
+        while piece := connection.recv(1 << 16):
+            came += piece
+            while len(came) >= 12:
+                size = 12 + int.from_bytes(came[8:12], "big")
+                if len(came) < min(size, MEBIBYTE):
+                    break
+                answer = packet(OPTION_RES, b"exceptions", magic=b"\0RES") if kind_of(came) == OPTION_REQ else self.answer(came[:size])
+                if answer is None:
+                    return
+                connection.sendall(answer)
+                came = came[size:]
+
+    def __enter__(self):
+        return self
+
+    def __exit__(self, *_):
+        # It wakes the thread that accepts.
+        self.listener.shutdown(socket.SHUT_RDWR)
+        self.listener.close()
+        self.join(PATIENCE)
 
 
 class Table:

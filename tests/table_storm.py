@@ -33,8 +33,10 @@ class Storm:
         for index in range(dice.randrange(1, 80)):
             unique = f"{number}-{index}"
             later = self.database.later(dice.choice([0, 0, 0, 0, 0, 0, 0, 0, 1, 4]))
-            yield unique, (f"INSERT INTO gearman_jobs (function, data, unique_id, priority, run_at) VALUES (?, ?, ?, ?, {later})",
-                           (dice.choice(FUNCTIONS), b"%d" % dice.randrange(60), unique, dice.choice(["high", "normal", "low"])))
+            # No job fails, so one attempt has to be enough.
+            yield unique, (f"INSERT INTO gearman_jobs (function, data, unique_id, priority, run_at, max_attempts) VALUES (?, ?, ?, ?, {later}, ?)",
+                           (dice.choice(FUNCTIONS), b"%d" % dice.randrange(60), unique, dice.choice(["high", "normal", "low"]),
+                            [5, 1][index % 2]))
 
     def insert(self):
         """The application: each transaction is committed, or rolls back, or nobody knows, because the database went."""
@@ -137,6 +139,7 @@ class Storm:
         """Compares the table, the application's account, and how often the workers did what."""
         rows = self.database.ask("SELECT unique_id, state, result, error FROM gearman_jobs")
         there = {row[0] for row in rows}
+        same("rows that failed once", self.database.ask("SELECT unique_id, state, error FROM gearman_jobs WHERE attempts > 0 LIMIT 5"), [])
         same("rows that aren't done", [row for row in rows if row[1] != "done"][:5], [])
         same("wrong results", [row for row in rows if row[2] != b"did " + row[0].encode()][:5], [])
         same("committed rows that are lost", sorted(self.committed - there)[:5], [])

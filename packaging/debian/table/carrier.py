@@ -7,7 +7,7 @@ import struct
 import time
 
 from bell import Bell, say
-from rows import done, failed, returned, text_of
+from rows import done, failed, lost, returned, text_of
 
 SUBMIT = {"high": 21, "normal": 7, "low": 33}
 JOB_CREATED, WORK_COMPLETE, WORK_FAIL, ECHO_REQ, ECHO_RES, ERROR = 8, 13, 14, 16, 17, 19
@@ -48,7 +48,8 @@ class Link:
     def forget(self):
         """Is as before a connection."""
         self.out, self.came = collections.deque(), bytearray()
-        self.unsent = 0
+        # Bytes that were given to this connection, and those of them that weren't sent.
+        self.queued = self.unsent = 0
         # What the server has to answer, in this order: rows, and None for an option or an echo. Its jobs' rows by their handles, each as
         # often as it was submitted.
         self.unanswered, self.jobs = collections.deque(), {}
@@ -81,8 +82,8 @@ class Link:
         self.ask(None, packet(OPTION_REQ, b"exceptions"))
 
     def lose(self, reason, is_cut=False):
-        """The server is away. Its rows come back at once. If it was cut while it read a row, that row may be the reason, and this counts
-        as an attempt of it."""
+        """The server is away. Its rows come back at once. If it was cut, one of them may be the reason: that whose bytes were being sent, for
+        which this counts as an attempt, or the first that it hadn't answered, for which it counts as a loss."""
         if self.socket:
             if self.socket.fileno() in self.carrier.selector.get_map():
                 self.carrier.selector.unregister(self.socket)
@@ -92,24 +93,35 @@ class Link:
             say(f"{self.name}: {reason}; it is tried again")
         self.reason = self.reason or reason
         rows = [row for row in self.unanswered if row] + [row for rows in self.jobs.values() for row in rows]
-        suspect = next((row for row in self.unanswered if row), None) if is_cut and not self.is_refused else None
+        unanswered = [row for row in self.unanswered if row] if is_cut and not self.is_refused else []
+        being_sent = [row for row in unanswered if row.begin < self.queued - self.unsent < row.end]
+        suspect = (being_sent or unanswered or [None])[0]
+        error = f"{self.name}: {reason}"
         self.is_up = False
         self.carrier.unsent -= self.unsent
         self.forget()
         for row in rows:
-            if not row.is_ended:
-                error = f"{self.name}: {reason}"
-                self.carrier.end(failed(row, error, self.carrier.options.delays) if row is suspect else returned(row, error))
+            if row.is_ended:
+                continue
+            if row is not suspect:
+                self.carrier.end(returned(row, error))
+            elif being_sent:
+                self.carrier.end(failed(row, error, self.carrier.options.delays))
+            else:
+                self.carrier.end(lost(row, error))
 
     def ask(self, row, *pieces):
         """Queues a packet that the server answers: a row's, or another."""
         if not self.unanswered:
             self.asked = time.monotonic()
         self.unanswered.append(row)
-        for piece in pieces:
-            self.out.append(memoryview(piece))
-            self.unsent += len(piece)
-            self.carrier.unsent += len(piece)
+        size = sum(map(len, pieces))
+        if row:
+            row.begin, row.end = self.queued, self.queued + size
+        self.out.extend(map(memoryview, pieces))
+        self.queued += size
+        self.unsent += size
+        self.carrier.unsent += size
 
     def write(self):
         """Sends as much as the system takes."""

@@ -4,7 +4,7 @@ import select
 import psycopg2
 import psycopg2.extras
 
-from rows import Row, unique_of
+from rows import MANY_LOSSES, MAX_LOSS_DOUBLINGS, Row, unique_of
 from schema import COLUMNS, HOME, SIZES, SchemaError, WrongHome, check_version
 
 # Each statement goes by an index, also before the first statistics of a table exist.
@@ -34,17 +34,17 @@ WITH picked AS MATERIALIZED (
 UPDATE gearman_jobs AS job SET state = 'running', claims = claims + 1, holder = %(holder)s, claimed_at = now(),
     lease = now() + %(lease)s * interval '1 second'
 FROM fitting WHERE job.id = fitting.id
-RETURNING job.id, claims, function, unique_id, priority, attempts, max_attempts,
+RETURNING job.id, claims, function, unique_id, priority, attempts, losses, max_attempts,
     CASE WHEN octet_length(data) <= %(max_data)s THEN data END, octet_length(data),
     extract(epoch FROM coalesce(retry_at, run_at))::float8"""
 # The case compares columns of both sides, here and below. So rows are found by their ids alone: statistics may say that hardly any row is
 # running, and then all rows would be read, and compared with all values.
 WRITE = """
-UPDATE gearman_jobs AS job SET state = new.state, attempts = job.attempts + new.counted, result = new.result,
-    error = CASE WHEN new.state = 'done' THEN NULL ELSE coalesce(new.error, job.error) END,
+UPDATE gearman_jobs AS job SET state = new.state, attempts = job.attempts + new.counted, losses = job.losses + new.lost,
+    result = new.result, error = CASE WHEN new.state = 'done' THEN NULL ELSE coalesce(new.error, job.error) END,
     retry_at = CASE WHEN new.delay IS NULL THEN job.retry_at ELSE now() + new.delay * interval '1 second' END,
     ended_at = CASE WHEN new.state <> 'waiting' THEN now() END, holder = NULL, lease = NULL, server = NULL, handle = NULL
-FROM (VALUES %s) AS new (id, claims, state, counted, result, error, delay)
+FROM (VALUES %s) AS new (id, claims, state, counted, lost, result, error, delay)
 WHERE job.id = new.id AND CASE WHEN job.claims = new.claims THEN job.state = 'running' ELSE false END
 RETURNING job.id, CASE WHEN isfinite(job.run_at) THEN extract(epoch FROM now() - job.run_at)::float8 ELSE 0 END"""
 RENEW = """
@@ -52,11 +52,11 @@ UPDATE gearman_jobs AS job SET lease = now() + %(lease)s * interval '1 second', 
 FROM unnest(%(ids)s::bigint[], %(claims)s::bigint[], %(servers)s::text[], %(handles)s::text[]) AS new (id, claims, server, handle)
 WHERE job.id = new.id AND CASE WHEN job.claims = new.claims THEN job.state = 'running' ELSE false END
 RETURNING job.id"""
-# From the sixth time on a lost row is given more and more time, in case that it is what takes each gmd-table down.
-FREE = """
+FREE = f"""
 UPDATE gearman_jobs SET state = 'waiting', losses = losses + 1, holder = NULL, lease = NULL, server = NULL, handle = NULL,
     error = 'the lease ended: its gmd-table went',
-    retry_at = CASE WHEN losses >= 5 THEN now() + power(2, least(losses - 5, 6)) * interval '1 second' ELSE retry_at END
+    retry_at = CASE WHEN losses >= {MANY_LOSSES}
+        THEN now() + power(2, least(losses - {MANY_LOSSES}, {MAX_LOSS_DOUBLINGS})) * interval '1 second' ELSE retry_at END
 WHERE id IN (SELECT id FROM gearman_jobs WHERE state = 'running' AND lease < now() ORDER BY lease LIMIT 1000 FOR UPDATE SKIP LOCKED)"""
 COUNTS = "SELECT function, state, count(*) FROM gearman_jobs GROUP BY function, state ORDER BY function, state"
 OLDEST = """
@@ -134,16 +134,16 @@ class PostgreSQL:
         """Takes rows of this priority that are due: of each function at most this many, with at most this many bytes in all, or one."""
         found = self.ask(CLAIM, {"functions": list(rooms), "rooms": list(rooms.values()), "priority": priority, "max_bytes": max_bytes,
                                  "max_data": self.options.max_data, "holder": self.options.holder, "lease": self.options.lease})
-        return [Row(id_, claims, function.encode(), unique_of((unique or "").encode(), self.identity, id_), level, attempts, most,
+        return [Row(id_, claims, function.encode(), unique_of((unique or "").encode(), self.identity, id_), level, attempts, losses, most,
                     None if data is None else bytes(data), size, due)
-                for id_, claims, function, unique, level, attempts, most, data, size, due in found]
+                for id_, claims, function, unique, level, attempts, losses, most, data, size, due in found]
 
     def write(self, outcomes):
         """Writes what became of rows. The ids of those that this gmd-table still had, with their seconds since they were due."""
-        values = [(out.row.id, out.row.claims, out.state, out.counted, out.result, out.error, out.delay) for out in outcomes]
+        values = [(out.row.id, out.row.claims, out.state, out.counted, out.lost, out.result, out.error, out.delay) for out in outcomes]
         with self.connection.cursor() as cursor:
             return psycopg2.extras.execute_values(
-                cursor, WRITE, values, "(%s::bigint, %s::bigint, %s, %s::integer, %s::bytea, %s::text, %s::float8)",
+                cursor, WRITE, values, "(%s::bigint, %s::bigint, %s, %s::integer, %s::integer, %s::bytea, %s::text, %s::float8)",
                 page_size=len(values), fetch=True)
 
     def renew(self, rows):

@@ -7,6 +7,8 @@ PRIORITIES = ("high", "normal", "low")
 MAX_ERROR = 1000
 # The exponent of the last delay between attempts: behind it, all have the greatest delay.
 MAX_DOUBLINGS = 32
+# A row that was lost this often is given time, in case that it takes down each server or gmd-table: a second, which doubles up to a bound.
+MANY_LOSSES, MAX_LOSS_DOUBLINGS = 5, 6
 
 
 @dataclasses.dataclass(eq=False)
@@ -18,6 +20,7 @@ class Row:
     unique: bytes  # the job's
     priority: str
     attempts: int
+    losses: int
     max_attempts: int
     data: bytes  # None once it was sent, and where there are too many bytes
     size: int
@@ -29,16 +32,19 @@ class Row:
     warning: bytes = b""
     pieces: list = dataclasses.field(default_factory=list)  # what the worker sent before its result
     length: int = 0  # of the pieces
+    begin: int = 0  # where its packet is in what is sent to its server
+    end: int = 0
     is_ended: bool = False
     is_ours: bool = True  # until another one has the lease
 
 
 @dataclasses.dataclass(eq=False)
 class Outcome:
-    """What became of a row on the way, as it is written: its state, how many attempts failed, and when it is due again."""
+    """What became of a row on the way, as it is written: its state, how many attempts failed or were lost, and when it is due again."""
     row: Row
     state: str
     counted: int = 0
+    lost: int = 0
     result: bytes = None
     error: str = None
     delay: float = None
@@ -70,6 +76,12 @@ def failed(row, error, delays, is_final=False):
     first, most = delays
     delay = min(first * 2.0 ** min(row.attempts, MAX_DOUBLINGS), most)
     return Outcome(row, "waiting", counted=1, error=error, delay=delay * random.uniform(0.5, 1))
+
+
+def lost(row, error):
+    """The row comes back, and may be why its server went. This is no failed attempt, because most servers that go do so for another reason."""
+    delay = 2.0 ** min(row.losses - MANY_LOSSES, MAX_LOSS_DOUBLINGS) if row.losses >= MANY_LOSSES else None
+    return Outcome(row, "waiting", lost=1, error=error, delay=delay)
 
 
 def returned(row, error, delay=None):

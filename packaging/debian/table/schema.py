@@ -36,7 +36,7 @@ CREATE TABLE IF NOT EXISTS gearman_jobs (
     state text COLLATE "C" NOT NULL DEFAULT 'waiting' CHECK (state IN ('waiting', 'running', 'done', 'failed')),
     attempts integer NOT NULL DEFAULT 0,    -- attempts that failed
     retry_at timestamptz,                   -- when the next attempt is due, after a failure
-    losses integer NOT NULL DEFAULT 0,      -- how often its gmd-table went while it was running
+    losses integer NOT NULL DEFAULT 0,      -- how often its gmd-table went while it was running, or its server while it took the row
     claims bigint NOT NULL DEFAULT 0,       -- how often a gmd-table took the row: only the last one may write what became of it
     holder text,                            -- the gmd-table that has the row, while it is running
     lease timestamptz,                      -- until when
@@ -92,7 +92,7 @@ CREATE TABLE IF NOT EXISTS gearman_jobs (
     state TEXT NOT NULL DEFAULT 'waiting' CHECK (state IN ('waiting', 'running', 'done', 'failed')),
     attempts INTEGER NOT NULL DEFAULT 0,    -- attempts that failed
     retry_at TEXT,                          -- when the next attempt is due, after a failure
-    losses INTEGER NOT NULL DEFAULT 0,      -- how often its gmd-table went while it was running
+    losses INTEGER NOT NULL DEFAULT 0,      -- how often its gmd-table went while it was running, or its server while it took the row
     claims INTEGER NOT NULL DEFAULT 0,      -- how often a gmd-table took the row: only the last one may write what became of it
     holder TEXT,                            -- the gmd-table that has the row, while it is running
     lease TEXT,                             -- until when

@@ -7,7 +7,7 @@ import select
 import sqlite3
 import time
 
-from rows import Row, unique_of
+from rows import MANY_LOSSES, MAX_LOSS_DOUBLINGS, Row, unique_of
 from schema import COLUMNS, SIZES, SQLITE_NOW, WrongHome, check_version
 
 # Seconds, between which it looks whether another connection changed the file; and for which it waits for another one that writes.
@@ -31,10 +31,10 @@ SELECT id, {SIZE} FROM gearman_jobs WHERE state = 'waiting' AND function = CAST(
 ORDER BY {DUE}, id LIMIT ?"""
 TAKE = f"""
 UPDATE gearman_jobs SET state = 'running', claims = claims + 1, holder = ?, claimed_at = {SQLITE_NOW}, lease = {later()} WHERE id = ?
-RETURNING id, claims, function, unique_id, priority, attempts, max_attempts,
+RETURNING id, claims, function, unique_id, priority, attempts, losses, max_attempts,
     CASE WHEN {SIZE} <= ? THEN CAST(data AS BLOB) END, {SIZE}, {DUE}"""
 WRITE = f"""
-UPDATE gearman_jobs SET state = :state, attempts = attempts + :counted, result = :result,
+UPDATE gearman_jobs SET state = :state, attempts = attempts + :counted, losses = losses + :lost, result = :result,
     error = CASE WHEN :state = 'done' THEN NULL ELSE coalesce(:error, error) END,
     retry_at = CASE WHEN :delay IS NULL THEN retry_at ELSE {later(":delay")} END,
     ended_at = CASE WHEN :state <> 'waiting' THEN {SQLITE_NOW} END, holder = NULL, lease = NULL, server = NULL, handle = NULL
@@ -42,11 +42,10 @@ WHERE id = :id AND claims = :claims AND state = 'running'
 RETURNING id, coalesce((julianday('now') - julianday(run_at)) * 86400, 0)"""
 RENEW = f"""
 UPDATE gearman_jobs SET lease = {later()}, server = ?, handle = ? WHERE id = ? AND claims = ? AND state = 'running' RETURNING id"""
-# As in PostgreSQL: a row that was lost often is given time.
 FREE = f"""
 UPDATE gearman_jobs SET state = 'waiting', losses = losses + 1, holder = NULL, lease = NULL, server = NULL, handle = NULL,
     error = 'the lease ended: its gmd-table went',
-    retry_at = CASE WHEN losses >= 5 THEN {later("(1 << min(losses - 5, 6))")} ELSE retry_at END
+    retry_at = CASE WHEN losses >= {MANY_LOSSES} THEN {later(f"(1 << min(losses - {MANY_LOSSES}, {MAX_LOSS_DOUBLINGS}))")} ELSE retry_at END
 WHERE id IN (SELECT id FROM gearman_jobs WHERE state = 'running' AND lease < {SQLITE_NOW} ORDER BY lease LIMIT 1000)"""
 
 
@@ -149,14 +148,15 @@ class SQLite:
                 if max_bytes < 0 and taken:
                     break
                 taken += self.ask(TAKE, (self.options.holder, str(self.options.lease), id_, max_data))
-        return [Row(id_, claims, function, unique_of(unique or b"", self.identity, id_), level.decode(), attempts, most, data, size, due)
-                for id_, claims, function, unique, level, attempts, most, data, size, due in taken]
+        return [Row(id_, claims, function, unique_of(unique or b"", self.identity, id_), level.decode(), attempts, losses, most, data,
+                    size, due)
+                for id_, claims, function, unique, level, attempts, losses, most, data, size, due in taken]
 
     def write(self, outcomes):
         """Writes what became of rows. The ids of those that this gmd-table still had, with their seconds since they were due."""
         with self.writing():
             return [found for out in outcomes for found in self.ask(WRITE, {
-                "id": out.row.id, "claims": out.row.claims, "state": out.state, "counted": out.counted, "result": out.result,
+                "id": out.row.id, "claims": out.row.claims, "state": out.state, "counted": out.counted, "lost": out.lost, "result": out.result,
                 "error": out.error, "delay": out.delay})]
 
     def renew(self, rows):
