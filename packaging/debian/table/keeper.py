@@ -1,5 +1,6 @@
 """The thread that talks to the database: it takes rows that are due, renews their leases, and writes what became of them."""
 import collections
+import itertools
 import select
 import threading
 import time
@@ -30,11 +31,11 @@ class Keeper(threading.Thread):
         self.on_the_way = {}  # by id
         self.of_function, self.bytes_of = collections.Counter(), collections.Counter()
         self.claimed, self.ended = collections.deque(), collections.deque()
-        self.unwritten = []
+        self.unwritten, self.held = collections.deque(), 0  # and about how many bytes these are
         self.pairs, self.pairs_read, self.pairs_cost = [], 0.0, 0.0
         self.has_new, self.gathers, self.lacks_space, self.last_claim = True, False, False, 0.0
         self.freed, self.failure, self.fault = 0.0, None, None
-        self.has_stopped = False
+        self.has_opened = self.has_stopped = False
         self.is_stopping = False
 
     ### What the carrier calls
@@ -52,7 +53,8 @@ class Keeper(threading.Thread):
     ### The thread
 
     def run(self):
-        """Works until it is asked to stop and all rows on the way were written. A database that is away is tried again."""
+        """Works until it is asked to stop and all rows on the way were written. A database that is away is tried again, and so is one whose
+        table was there and isn't any more."""
         pause = RETRY_FIRST
         try:
             while not (self.is_stopping and not self.on_the_way):
@@ -60,13 +62,14 @@ class Keeper(threading.Thread):
                     self.open()
                     self.work()
                     pause = RETRY_FIRST
-                except self.store.errors as error:
+                except (SchemaError, *self.store.errors) as error:
+                    if isinstance(error, SchemaError) and not self.has_opened:
+                        self.fault = str(error)
+                        return
                     self.lose(error)
                     select.select([self.bell], [], [], pause)
                     time.sleep(pause / 4)
                     pause = min(pause * 2, RETRY_MOST)
-        except SchemaError as error:
-            self.fault = str(error)
         finally:
             self.store.close()
             self.has_stopped = True
@@ -77,7 +80,7 @@ class Keeper(threading.Thread):
         if self.store.connection:
             return
         self.store.open()
-        self.has_new = True
+        self.has_new = self.has_opened = True
         self.freed = time.monotonic() + self.options.lease / 2
 
     def lose(self, error):
@@ -91,10 +94,10 @@ class Keeper(threading.Thread):
     def work(self):
         """One round."""
         self.bell.answer()
-        self.write()
+        has_more = self.write()
         self.renew()
         self.free()
-        has_more = self.claim()
+        has_more = self.claim() or has_more
         if self.failure:
             say("the database answers")
             self.failure = None
@@ -102,30 +105,33 @@ class Keeper(threading.Thread):
             self.has_new |= self.store.wait(self.bell, GATHERING if self.gathers else self.options.poll)
 
     def write(self):
-        """Writes what became of rows. What can't be written stays, for the next time."""
+        """Writes what became of rows, one batch a round, so that leases are renewed and rows are taken in between. A row that another
+        transaction has locked stays for a later round. Whether more can be written at once."""
         while self.ended:
             self.unwritten.append(self.ended.popleft())
-        while self.unwritten:
-            count, size = 0, 0
-            while count < min(len(self.unwritten), MAX_WRITTEN) and (not count or size < MAX_WRITTEN_BYTES):
-                size += self.unwritten[count].size()
-                count += 1
-            batch = self.unwritten[:count]
-            try:
-                self.settle(batch, self.store.write(batch))
-            except self.store.errors as error:
-                if not self.store.is_of_row(error):
-                    raise
-                for _ in batch:
-                    self.write_one()
+            self.held += self.unwritten[-1].size()
+        batch, size = [], 0
+        for outcome in itertools.islice(self.unwritten, MAX_WRITTEN):
+            batch.append(outcome)
+            size += outcome.size()
+            if size >= MAX_WRITTEN_BYTES:
+                break
+        if not batch:
+            return False
+        try:
+            locked = self.settle(batch, *self.store.write(batch))
+        except self.store.errors as error:
+            if not self.store.is_of_row(error):
+                raise
+            locked = sum(self.write_one() for _ in batch)
+        return locked < len(batch) and bool(self.unwritten)
 
     def write_one(self):
         """Writes one outcome, where the database refuses one of several. A row whose outcome is refused fails. If that is refused too, its
-        lease ends some day."""
+        lease ends some day. How many were locked."""
         outcome = self.unwritten[0]
         try:
-            self.settle([outcome], self.store.write([outcome]))
-            return
+            return self.settle([outcome], *self.store.write([outcome]))
         except self.store.errors as error:
             if not self.store.is_of_row(error):
                 raise
@@ -136,16 +142,21 @@ class Keeper(threading.Thread):
         except self.store.errors as error:
             if not self.store.is_of_row(error):
                 raise
-            written = []
-        self.settle([outcome], written)
+            written = {}, set()
+        return self.settle([outcome], *written)
 
-    def settle(self, batch, written):
-        """Forgets the first rows of those that are to be written, because they were."""
-        seconds = dict(written)
-        del self.unwritten[: len(batch)]
+    def settle(self, batch, written, locked):
+        """Forgets the first rows of those that are to be written, because they were, or are another's by now. Those that were locked are the
+        last from now on. How many these are."""
         for outcome in batch:
-            self.forget(outcome.row)
-            self.numbers.ended(outcome, seconds.get(outcome.row.id))
+            self.unwritten.popleft()
+            if outcome.row.claim in locked:
+                self.unwritten.append(outcome)
+            else:
+                self.held -= outcome.size()
+                self.forget(outcome.row)
+                self.numbers.ended(outcome, written.get(outcome.row.claim))
+        return len(locked)
 
     def forget(self, row):
         """A row isn't on the way any more."""
@@ -158,16 +169,18 @@ class Keeper(threading.Thread):
             del self.of_function[row.function], self.bytes_of[row.function]
 
     def renew(self):
-        """Renews the leases that are a third over, and that of each row once when it has run for a second."""
+        """Renews the leases that are a third over, and that of each row once when it has run for a second. A lease whose row another transaction
+        has locked is tried again in the next round."""
         now, third = time.monotonic(), self.options.lease / 3
         rows = [row for row in self.on_the_way.values()
                 if row.is_ours and now - row.renewed >= (third if row.renewed > row.claimed else min(FIRST_RENEWAL, third))]
         for begin in range(0, len(rows), MAX_WRITTEN):
             some = rows[begin : begin + MAX_WRITTEN]
-            ours = self.store.renew(some)
+            renewed, locked = self.store.renew(some)
             for row in some:
-                row.renewed = now
-                row.is_ours = row.id in ours
+                if row.claim not in locked:
+                    row.renewed = now
+                    row.is_ours = row.claim in renewed
 
     def free(self):
         """Has rows wait again whose leases ended: those of a gmd-table that went."""
@@ -211,7 +224,7 @@ class Keeper(threading.Thread):
         for priority in PRIORITIES:
             functions = [function for function, level in self.pairs if level == priority]
             rooms = {function: room for function in functions if (room := self.room(self.key(function)))}
-            space = self.options.memory - self.carrier.unsent
+            space = self.options.memory - self.carrier.unsent - self.held
             if not rooms or len(self.on_the_way) >= MAX_ON_THE_WAY:
                 continue
             if space <= 0:

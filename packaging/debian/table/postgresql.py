@@ -37,21 +37,26 @@ FROM fitting WHERE job.id = fitting.id
 RETURNING job.id, claims, function, unique_id, priority, attempts, losses, max_attempts,
     CASE WHEN octet_length(data) <= %(max_data)s THEN data END, octet_length(data),
     extract(epoch FROM coalesce(retry_at, run_at))::float8"""
-# The case compares columns of both sides, here and below. So rows are found by their ids alone: statistics may say that hardly any row is
-# running, and then all rows would be read, and compared with all values.
-WRITE = """
+# The rows of `new` that still are this gmd-table's, and that no other transaction has locked: a lock of the application on one row holds up no
+# other row. The case compares columns of both sides. So rows are found by their ids alone: statistics may say that hardly any row is running,
+# and then all rows would be read, and compared with all values.
+OURS = "found.id = new.id AND CASE WHEN found.claims = new.claims THEN found.state = 'running' ELSE false END"
+FREE_ROWS = f"LATERAL (SELECT id FROM gearman_jobs AS found WHERE {OURS} FOR NO KEY UPDATE SKIP LOCKED) AS free_row"
+STILL_OURS = f"SELECT found.id, found.claims FROM gearman_jobs AS found, unnest(%s::bigint[], %s::bigint[]) AS new (id, claims) WHERE {OURS}"
+WRITE = f"""
 UPDATE gearman_jobs AS job SET state = new.state, attempts = job.attempts + new.counted, losses = job.losses + new.lost,
     result = new.result, error = CASE WHEN new.state = 'done' THEN NULL ELSE coalesce(new.error, job.error) END,
     retry_at = CASE WHEN new.delay IS NULL THEN job.retry_at ELSE now() + new.delay * interval '1 second' END,
     ended_at = CASE WHEN new.state <> 'waiting' THEN now() END, holder = NULL, lease = NULL, server = NULL, handle = NULL
-FROM (VALUES %s) AS new (id, claims, state, counted, lost, result, error, delay)
-WHERE job.id = new.id AND CASE WHEN job.claims = new.claims THEN job.state = 'running' ELSE false END
-RETURNING job.id, CASE WHEN isfinite(job.run_at) THEN extract(epoch FROM now() - job.run_at)::float8 ELSE 0 END"""
-RENEW = """
+FROM (VALUES %s) AS new (id, claims, state, counted, lost, result, error, delay), {FREE_ROWS}
+WHERE job.id = free_row.id
+RETURNING job.id, job.claims, CASE WHEN isfinite(job.run_at) THEN extract(epoch FROM now() - job.run_at)::float8 ELSE 0 END"""
+RENEW = f"""
 UPDATE gearman_jobs AS job SET lease = now() + %(lease)s * interval '1 second', server = new.server, handle = new.handle
-FROM unnest(%(ids)s::bigint[], %(claims)s::bigint[], %(servers)s::text[], %(handles)s::text[]) AS new (id, claims, server, handle)
-WHERE job.id = new.id AND CASE WHEN job.claims = new.claims THEN job.state = 'running' ELSE false END
-RETURNING job.id"""
+FROM unnest(%(ids)s::bigint[], %(claims)s::bigint[], %(servers)s::text[], %(handles)s::text[]) AS new (id, claims, server, handle),
+    {FREE_ROWS}
+WHERE job.id = free_row.id
+RETURNING job.id, job.claims"""
 FREE = f"""
 UPDATE gearman_jobs SET state = 'waiting', losses = losses + 1, holder = NULL, lease = NULL, server = NULL, handle = NULL,
     error = 'the lease ended: its gmd-table went',
@@ -62,8 +67,9 @@ COUNTS = "SELECT function, state, count(*) FROM gearman_jobs GROUP BY function, 
 OLDEST = """
 SELECT extract(epoch FROM now() - min(coalesce(retry_at, run_at)))::float8 FROM gearman_jobs
 WHERE state = 'waiting' AND coalesce(retry_at, run_at) <= now() AND isfinite(coalesce(retry_at, run_at))"""
-# Classes of errors that are of the database and not of a row: no resources, a server that stops, a transaction that may not write.
-OF_DATABASE = ("08", "25", "40", "53", "57", "58")
+# Classes of errors that are of the database and not of a row: no connection, a transaction that may not write, or was rolled back, a table or a
+# right that is missing, no resources, a lock, a server that stops.
+OF_DATABASE = ("08", "25", "40", "42", "53", "55", "57", "58")
 
 
 class PostgreSQL:
@@ -139,18 +145,27 @@ class PostgreSQL:
                 for id_, claims, function, unique, level, attempts, losses, most, data, size, due in found]
 
     def write(self, outcomes):
-        """Writes what became of rows. The ids of those that this gmd-table still had, with their seconds since they were due."""
-        values = [(out.row.id, out.row.claims, out.state, out.counted, out.lost, out.result, out.error, out.delay) for out in outcomes]
+        """Writes what became of rows, in the order of their ids. The claims that this gmd-table still had, with their seconds since they were
+        due, and those that another transaction has locked."""
+        values = sorted(((*out.row.claim, out.state, out.counted, out.lost, out.result, out.error, out.delay) for out in outcomes),
+                        key=lambda value: value[:2])
         with self.connection.cursor() as cursor:
-            return psycopg2.extras.execute_values(
+            written = {(id_, claims): seconds for id_, claims, seconds in psycopg2.extras.execute_values(
                 cursor, WRITE, values, "(%s::bigint, %s::bigint, %s, %s::integer, %s::integer, %s::bytea, %s::text, %s::float8)",
-                page_size=len(values), fetch=True)
+                page_size=len(values), fetch=True)}
+        return written, self.still_ours([out.row for out in outcomes if out.row.claim not in written])
 
     def renew(self, rows):
-        """Renews leases. The ids of the rows that this gmd-table still had."""
-        return {id_ for [id_] in self.ask(RENEW, {
+        """Renews leases. The claims that this gmd-table still had, and those that another transaction has locked."""
+        rows.sort(key=lambda row: row.id)
+        renewed = set(self.ask(RENEW, {
             "ids": [row.id for row in rows], "claims": [row.claims for row in rows], "lease": self.options.lease,
-            "servers": [row.server for row in rows], "handles": [row.handle.decode(errors="backslashreplace") for row in rows]})}
+            "servers": [row.server for row in rows], "handles": [row.handle.decode(errors="backslashreplace") for row in rows]}))
+        return renewed, self.still_ours([row for row in rows if row.claim not in renewed])
+
+    def still_ours(self, rows):
+        """The claims of these that this gmd-table has."""
+        return set(self.ask(STILL_OURS, [[row.id for row in rows], [row.claims for row in rows]])) if rows else set()
 
     def free(self):
         """Has rows wait again whose leases ended."""

@@ -38,6 +38,12 @@ class Row:
     is_ours: bool = True  # until another one has the lease
 
 
+    @property
+    def claim(self):
+        """What no other claim of any row has."""
+        return self.id, self.claims
+
+
 @dataclasses.dataclass(eq=False)
 class Outcome:
     """What became of a row on the way, as it is written: its state, how many attempts failed or were lost, and when it is due again."""

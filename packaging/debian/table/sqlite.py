@@ -39,7 +39,7 @@ UPDATE gearman_jobs SET state = :state, attempts = attempts + :counted, losses =
     retry_at = CASE WHEN :delay IS NULL THEN retry_at ELSE {later(":delay")} END,
     ended_at = CASE WHEN :state <> 'waiting' THEN {SQLITE_NOW} END, holder = NULL, lease = NULL, server = NULL, handle = NULL
 WHERE id = :id AND claims = :claims AND state = 'running'
-RETURNING id, coalesce((julianday('now') - julianday(run_at)) * 86400, 0)"""
+RETURNING id, claims, coalesce((julianday('now') - julianday(run_at)) * 86400, 0)"""
 RENEW = f"""
 UPDATE gearman_jobs SET lease = {later()}, server = ?, handle = ? WHERE id = ? AND claims = ? AND state = 'running' RETURNING id"""
 FREE = f"""
@@ -153,17 +153,18 @@ class SQLite:
                 for id_, claims, function, unique, level, attempts, losses, most, data, size, due in taken]
 
     def write(self, outcomes):
-        """Writes what became of rows. The ids of those that this gmd-table still had, with their seconds since they were due."""
+        """Writes what became of rows. The claims that this gmd-table still had, with their seconds since they were due, and those that are
+        locked, which are none: a lock is on the whole file."""
         with self.writing():
-            return [found for out in outcomes for found in self.ask(WRITE, {
+            return {(id_, claims): seconds for out in outcomes for id_, claims, seconds in self.ask(WRITE, {
                 "id": out.row.id, "claims": out.row.claims, "state": out.state, "counted": out.counted, "lost": out.lost, "result": out.result,
-                "error": out.error, "delay": out.delay})]
+                "error": out.error, "delay": out.delay})}, set()
 
     def renew(self, rows):
-        """Renews leases. The ids of the rows that this gmd-table still had."""
+        """Renews leases. The claims that this gmd-table still had, and those that are locked, which are none."""
         with self.writing():
-            return {id_ for row in rows for [id_] in self.ask(RENEW, (
-                str(self.options.lease), row.server, row.handle.decode(errors="backslashreplace"), row.id, row.claims))}
+            return {row.claim for row in rows if self.ask(RENEW, (
+                str(self.options.lease), row.server, row.handle.decode(errors="backslashreplace"), row.id, row.claims))}, set()
 
     def free(self):
         """Has rows wait again whose leases ended. It doesn't wait for the file's lock: who has these rows may wait for it too, to renew their
