@@ -34,7 +34,8 @@ class Storm:
             unique = f"{number}-{index}"
             later = self.database.later(dice.choice([0, 0, 0, 0, 0, 0, 0, 0, 1, 4]))
             # No job fails, so one attempt has to be enough.
-            yield unique, (f"INSERT INTO gearman_jobs (function, data, unique_id, priority, run_at, max_attempts) VALUES (?, ?, ?, ?, {later}, ?)",
+            yield unique, ("INSERT INTO gearman_jobs (function, data, unique_id, priority, max_attempts, run_at) "
+                           f"VALUES (?, ?, ?, ?, ?, {later})",
                            (dice.choice(FUNCTIONS), b"%d" % dice.randrange(60), unique, dice.choice(["high", "normal", "low"]),
                             [5, 1][index % 2]))
 

@@ -82,8 +82,8 @@ class Link:
         self.ask(None, packet(OPTION_REQ, b"exceptions"))
 
     def lose(self, reason, is_cut=False):
-        """The server is away. Its rows come back at once. If it was cut, one of them may be the reason: that whose bytes were being sent, for
-        which this counts as an attempt, or the first that it hadn't answered, for which it counts as a loss."""
+        """The server is away. Its rows come back at once. If it was cut, one of them may be the reason: that whose bytes were being sent,
+        for which this counts as an attempt, or the first that it hadn't answered, for which it counts as a loss."""
         if self.socket:
             if self.socket.fileno() in self.carrier.selector.get_map():
                 self.carrier.selector.unregister(self.socket)

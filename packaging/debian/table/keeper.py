@@ -146,8 +146,8 @@ class Keeper(threading.Thread):
         return self.settle([outcome], *written)
 
     def settle(self, batch, written, locked):
-        """Forgets the first rows of those that are to be written, because they were, or are another's by now. Those that were locked are the
-        last from now on. How many these are."""
+        """Forgets the first rows of those that are to be written, because they were, or are another's by now. Those that were locked are
+        the last from now on. How many these are."""
         for outcome in batch:
             self.unwritten.popleft()
             if outcome.row.claim in locked:
@@ -169,8 +169,8 @@ class Keeper(threading.Thread):
             del self.of_function[row.function], self.bytes_of[row.function]
 
     def renew(self):
-        """Renews the leases that are a third over, and that of each row once when it has run for a second. A lease whose row another transaction
-        has locked is tried again in the next round."""
+        """Renews the leases that are a third over, and that of each row once when it has run for a second. One whose row another
+        transaction has locked is tried again in the next round."""
         now, third = time.monotonic(), self.options.lease / 3
         rows = [row for row in self.on_the_way.values()
                 if row.is_ours and now - row.renewed >= (third if row.renewed > row.claimed else min(FIRST_RENEWAL, third))]

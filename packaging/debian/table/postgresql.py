@@ -37,12 +37,13 @@ FROM fitting WHERE job.id = fitting.id
 RETURNING job.id, claims, function, unique_id, priority, attempts, losses, max_attempts,
     CASE WHEN octet_length(data) <= %(max_data)s THEN data END, octet_length(data),
     extract(epoch FROM coalesce(retry_at, run_at))::float8"""
-# The rows of `new` that still are this gmd-table's, and that no other transaction has locked: a lock of the application on one row holds up no
-# other row. The case compares columns of both sides. So rows are found by their ids alone: statistics may say that hardly any row is running,
-# and then all rows would be read, and compared with all values.
+# The rows of `new` that still are this gmd-table's, and that no other transaction has locked: a lock of the application on one row holds up
+# no other row. The case compares columns of both sides. So rows are found by their ids alone: statistics may say that hardly any row is
+# running, and then all rows would be read, and compared with all values.
 OURS = "found.id = new.id AND CASE WHEN found.claims = new.claims THEN found.state = 'running' ELSE false END"
 FREE_ROWS = f"LATERAL (SELECT id FROM gearman_jobs AS found WHERE {OURS} FOR NO KEY UPDATE SKIP LOCKED) AS free_row"
-STILL_OURS = f"SELECT found.id, found.claims FROM gearman_jobs AS found, unnest(%s::bigint[], %s::bigint[]) AS new (id, claims) WHERE {OURS}"
+STILL_OURS = f"""
+SELECT found.id, found.claims FROM gearman_jobs AS found, unnest(%s::bigint[], %s::bigint[]) AS new (id, claims) WHERE {OURS}"""
 WRITE = f"""
 UPDATE gearman_jobs AS job SET state = new.state, attempts = job.attempts + new.counted, losses = job.losses + new.lost,
     result = new.result, error = CASE WHEN new.state = 'done' THEN NULL ELSE coalesce(new.error, job.error) END,
@@ -67,8 +68,8 @@ COUNTS = "SELECT function, state, count(*) FROM gearman_jobs GROUP BY function, 
 OLDEST = """
 SELECT extract(epoch FROM now() - min(coalesce(retry_at, run_at)))::float8 FROM gearman_jobs
 WHERE state = 'waiting' AND coalesce(retry_at, run_at) <= now() AND isfinite(coalesce(retry_at, run_at))"""
-# Classes of errors that are of the database and not of a row: no connection, a transaction that may not write, or was rolled back, a table or a
-# right that is missing, no resources, a lock, a server that stops.
+# Classes of errors that are of the database and not of a row: no connection, a transaction that may not write, or was rolled back, a
+# missing table or right, no resources, a lock, a server that stops.
 OF_DATABASE = ("08", "25", "40", "42", "53", "55", "57", "58")
 
 
@@ -145,8 +146,8 @@ class PostgreSQL:
                 for id_, claims, function, unique, level, attempts, losses, most, data, size, due in found]
 
     def write(self, outcomes):
-        """Writes what became of rows, in the order of their ids. The claims that this gmd-table still had, with their seconds since they were
-        due, and those that another transaction has locked."""
+        """Writes what became of rows, in the order of their ids. The claims that this gmd-table still had, with their seconds since they
+        were due, and those that another transaction has locked."""
         values = sorted(((*out.row.claim, out.state, out.counted, out.lost, out.result, out.error, out.delay) for out in outcomes),
                         key=lambda value: value[:2])
         with self.connection.cursor() as cursor:

@@ -85,7 +85,7 @@ def failed(row, error, delays, is_final=False):
 
 
 def lost(row, error):
-    """The row comes back, and may be why its server went. This is no failed attempt, because most servers that go do so for another reason."""
+    """The row comes back, and may be why its server went. This is no failed attempt, because most servers go for another reason."""
     delay = 2.0 ** min(row.losses - MANY_LOSSES, MAX_LOSS_DOUBLINGS) if row.losses >= MANY_LOSSES else None
     return Outcome(row, "waiting", lost=1, error=error, delay=delay)
 

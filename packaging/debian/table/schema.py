@@ -70,7 +70,8 @@ COMMIT;
 SQLITE_NOW = "strftime('%Y-%m-%d %H:%M:%f', 'now')"
 
 SQLITE = f"""\
--- The table of gmd-table, version {VERSION}, for SQLite 3.35 or later. Applied again, it changes nothing. Times are in UTC, as datetime('now').
+-- The table of gmd-table, version {VERSION}, for SQLite 3.35 or later. Applied again, it changes nothing. Times are in UTC, as
+-- datetime('now').
 PRAGMA journal_mode = WAL;
 BEGIN IMMEDIATE;
 CREATE TABLE IF NOT EXISTS gearman_jobs_version (version INTEGER NOT NULL);
@@ -122,9 +123,9 @@ class WrongHome(SchemaError):
     """The table isn't where it got its identity."""
 
     def __init__(self):
-        super().__init__("the table gearman_jobs is a copy, or was moved, and its jobs would have the unique ids of the original's: 'gmd-table "
-                         "identify DATABASE' gives it an identity of its own; if nobody uses the original any more, 'gmd-table identify "
-                         "--moved DATABASE' lets it keep this one")
+        super().__init__("the table gearman_jobs is a copy, or was moved, and its jobs would have the unique ids of the original's: "
+                         "'gmd-table identify DATABASE' gives it an identity of its own; if nobody uses the original any more, 'gmd-table "
+                         "identify --moved DATABASE' lets it keep this one")
 
 
 def check_version(version, kind):

@@ -156,9 +156,8 @@ class SQLite:
         """Writes what became of rows. The claims that this gmd-table still had, with their seconds since they were due, and those that are
         locked, which are none: a lock is on the whole file."""
         with self.writing():
-            return {(id_, claims): seconds for out in outcomes for id_, claims, seconds in self.ask(WRITE, {
-                "id": out.row.id, "claims": out.row.claims, "state": out.state, "counted": out.counted, "lost": out.lost, "result": out.result,
-                "error": out.error, "delay": out.delay})}, set()
+            return {(id_, claims): seconds for out in outcomes for id_, claims, seconds in self.ask(
+                WRITE, {**vars(out), "id": out.row.id, "claims": out.row.claims})}, set()
 
     def renew(self, rows):
         """Renews leases. The claims that this gmd-table still had, and those that are locked, which are none."""
