@@ -101,7 +101,11 @@ class PostgreSQL:
 
     def apply(self):
         """Applies the schema."""
-        self.ask(schema(self.kind))
+        self.script(schema(self.kind))
+
+    def script(self, statements):
+        """Runs several statements."""
+        self.ask(statements)
 
     def copied(self, name, template="postgres"):
         """A new database, which is a copy of this one."""
@@ -156,8 +160,11 @@ class SQLite:
         self.apply()
 
     def apply(self):
+        self.script(schema(self.kind))
+
+    def script(self, statements):
         with contextlib.closing(self.connect()) as connection:
-            connection.executescript(schema(self.kind))
+            connection.executescript(statements)
 
     def copied(self, name):
         self.ask("PRAGMA wal_checkpoint(TRUNCATE)")
