@@ -33,7 +33,7 @@ def status(store, options):
         print(json.dumps({"functions": functions, "oldest_due_seconds": round(oldest, 3)}))
         return 0
     print_table(("function", *states), [(function, *counts.values()) for function, counts in functions.items()])
-    print(f"the oldest row that is due has waited for {oldest:.1f} s")
+    print(f"the oldest row that is due has waited for {oldest:.1f} s; a running row is at a server, and perhaps not yet at a worker")
     return 0
 
 
@@ -48,15 +48,31 @@ def list_rows(store, options):
     return 0
 
 
-def change(store, options):
-    """Has rows be tried again, or cancels them. 1 if one of them wasn't in a state for that."""
-    changed = (store.retry if options.command == "retry" else store.cancel)(options.ids)
-    left = sorted(set(options.ids) - changed)
+def retry(store, options):
+    """Has rows be tried again. 1 if one of them is left as it is."""
+    changed = store.retry(options.ids, options.now)
+    return print_changed(options, changed, store.early(sorted(set(options.ids) - changed)))
+
+
+def cancel(store, options):
+    """Cancels rows. 1 if one of them is left as it is."""
+    changed = store.cancel(options.ids)
+    status = print_changed(options, changed, set())
+    if changed and not options.json:
+        print("the work of a row that was running, which means at a server, may still be done; its result is dropped")
+    return status
+
+
+def print_changed(options, changed, early):
+    """Prints which rows were changed, and which are left as they are, because they are not due yet or in another state."""
+    left = sorted(set(options.ids) - changed - early)
     if options.json:
-        print(json.dumps({"changed": sorted(changed), "left": left}))
+        print(json.dumps({"changed": sorted(changed), "left": left, "not_due": sorted(early)}))
     else:
-        print(f"{len(changed)} rows changed" + (f"; these are left as they are: {' '.join(map(str, left))}" if left else ""))
-    return 1 if left else 0
+        listed = lambda ids: " ".join(map(str, ids))
+        print(f"{len(changed)} rows changed" + (f"; these are left as they are: {listed(left)}" if left else "")
+              + (f"; these are not due yet, and --now makes them due: {listed(sorted(early))}" if early else ""))
+    return 1 if left or early else 0
 
 
 def identify(store, options):

@@ -199,12 +199,18 @@ class PostgreSQL:
             ORDER BY id DESC LIMIT %(most)s""", {"state": state, "function": function, "most": most})
         return [dict(zip(COLUMNS + SIZES, row)) for row in found]
 
-    def retry(self, ids):
-        """Has failed rows, and those that wait for another attempt, be due now. The ids of those."""
+    def retry(self, ids, is_now):
+        """Has failed rows, and those that wait for another attempt, be due now, though those whose time is to come only if this says so.
+        The ids of those."""
         return {id_ for [id_] in self.ask("""
             UPDATE gearman_jobs SET state = 'waiting', attempts = 0, losses = 0, ended_at = NULL,
             retry_at = CASE WHEN run_at > now() THEN now() END
-            WHERE id = ANY(%s) AND state IN ('failed', 'waiting') RETURNING id""", [ids])}
+            WHERE id = ANY(%s) AND state IN ('failed', 'waiting') AND (%s OR run_at <= now()) RETURNING id""", [ids, is_now])}
+
+    def early(self, ids):
+        """The ids of the rows, of these, that `retry` leaves because their time is to come."""
+        return {id_ for [id_] in self.ask(
+            "SELECT id FROM gearman_jobs WHERE id = ANY(%s) AND state IN ('failed', 'waiting') AND run_at > now()", [ids])}
 
     def cancel(self, ids):
         """Has rows fail that wait or run. The ids of those."""

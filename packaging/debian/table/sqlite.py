@@ -213,8 +213,8 @@ class SQLite:
             ORDER BY id DESC LIMIT :most""", {"state": state, "function": function, "most": most})
         return [dict(zip(COLUMNS + SIZES, map(text, row))) for row in found]
 
-    def changed(self, statement, ids):
-        """The ids of the rows that a statement changed, of these."""
+    def answers(self, statement, ids):
+        """The ids that a statement answers of these."""
         found = set()
         with self.writing():
             for begin in range(0, len(ids), MAX_VARIABLES):
@@ -222,16 +222,22 @@ class SQLite:
                 found |= {id_ for [id_] in self.ask(statement.replace("IDS", ", ".join("?" * len(some))), some)}
         return found
 
-    def retry(self, ids):
-        """Has failed rows, and those that wait for another attempt, be due now. The ids of those."""
-        return self.changed(f"""
+    def retry(self, ids, is_now):
+        """Has failed rows, and those that wait for another attempt, be due now, though those whose time is to come only if this says so.
+        The ids of those."""
+        return self.answers(f"""
             UPDATE gearman_jobs SET state = 'waiting', attempts = 0, losses = 0, ended_at = NULL,
             retry_at = CASE WHEN run_at > {SQLITE_NOW} THEN {SQLITE_NOW} END
-            WHERE id IN (IDS) AND state IN ('failed', 'waiting') RETURNING id""", ids)
+            WHERE id IN (IDS) AND state IN ('failed', 'waiting') AND ({int(is_now)} OR run_at <= {SQLITE_NOW}) RETURNING id""", ids)
+
+    def early(self, ids):
+        """The ids of the rows, of these, that `retry` leaves because their time is to come."""
+        return self.answers(
+            f"SELECT id FROM gearman_jobs WHERE id IN (IDS) AND state IN ('failed', 'waiting') AND run_at > {SQLITE_NOW}", ids)
 
     def cancel(self, ids):
         """Has rows fail that wait or run. The ids of those."""
-        return self.changed(f"""
+        return self.answers(f"""
             UPDATE gearman_jobs SET state = 'failed', error = 'cancelled', ended_at = {SQLITE_NOW}, holder = NULL, lease = NULL,
             server = NULL, handle = NULL WHERE id IN (IDS) AND state IN ('waiting', 'running') RETURNING id""", ids)
 
