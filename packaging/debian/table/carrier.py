@@ -19,7 +19,7 @@ PIECE, MOST_BUFFERS = 1 << 18, 64
 # Seconds: for a connection to be made and answered; and between tries of a server that is away.
 CONNECTING, RETRY_FIRST, RETRY_MOST = 5, 0.2, 5
 # Errors of a server that are no fault of the row; and those after which no other attempt would be taken.
-NOT_NOW, FOR_EVER = (b"queue_full", b"no_numbers"), (b"packet_too_large", b"bad_function", b"bad_arguments")
+NOT_NOW, FOR_EVER = (b"queue_full", b"no_numbers"), (b"packet_too_large", b"bad_function", b"bad_arguments", b"argument_too_large")
 
 
 class Gone(Exception):
@@ -239,7 +239,7 @@ class Link:
             if code.lower().endswith(NOT_NOW):
                 self.carrier.end(returned(row, error, delay=1.0))
             else:
-                self.carrier.end(failed(row, error, self.carrier.options.delays, code.lower() in FOR_EVER))
+                self.carrier.end(failed(row, error, self.carrier.options.delays, code.lower().endswith(FOR_EVER)))
 
     def leave(self, row):
         """A row isn't at this server any more."""

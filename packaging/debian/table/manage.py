@@ -84,11 +84,10 @@ def identify(store, options):
 
 def purge(store, options):
     """Deletes rows that ended long ago."""
-    first, last = store.bounds()
     states = ["done", "failed"] if options.failed else ["done"]
-    count = 0
-    if first is not None:
-        for begin in range(first, last + 1, PURGED):
-            count += store.purge(begin, min(begin + PURGED - 1, last), options.days, states)
+    count, before = 0, -1 << 63
+    while (last := store.last_of_next(before, PURGED)) is not None:
+        count += store.purge(before, last, options.days, states)
+        before = last
     print(json.dumps({"deleted": count}) if options.json else f"{count} rows deleted")
     return 0

@@ -5,11 +5,15 @@ import psycopg2
 import psycopg2.extras
 
 from rows import MANY_LOSSES, MAX_LOSS_DOUBLINGS, Row, unique_of
-from schema import COLUMNS, HOME, SIZES, SchemaError, WrongHome, check_version
+from schema import COLUMNS, HOME, NEXT_CLAIM, SIZES, SchemaError, WrongHome, check_version
 
 # Each statement goes by an index, also before the first statistics of a table exist.
 SETTINGS = "; ".join(f"SET {name} = off" for name in ("enable_seqscan", "enable_bitmapscan", "enable_hashjoin", "enable_mergejoin",
                                                       "enable_sort", "jit"))
+# An application may have inserted any number. One that has no greater one must not stop a statement, and with it all other rows.
+MOST = (1 << 31) - 2
+# A row is due when it says, and not before it is there.
+SINCE = "greatest(job.run_at, job.created_at)"
 # The different functions and priorities of rows that wait: for each, one look into the index.
 PAIRS = """
 WITH RECURSIVE pairs AS (
@@ -19,7 +23,7 @@ WITH RECURSIVE pairs AS (
         SELECT function, priority FROM gearman_jobs WHERE state = 'waiting' AND (function, priority) > (pairs.function, pairs.priority)
         ORDER BY function, priority LIMIT 1) AS next)
 SELECT function, priority FROM pairs"""
-CLAIM = """
+CLAIM = f"""
 WITH picked AS MATERIALIZED (
     SELECT found.id, row_number() OVER (ORDER BY wanted.place, found.due, found.id) AS place,
         CASE WHEN found.size <= %(max_data)s THEN found.size ELSE 0 END AS size
@@ -31,7 +35,7 @@ WITH picked AS MATERIALIZED (
     SELECT id FROM (SELECT id, place, sum(size) OVER (ORDER BY place) AS bytes FROM picked) AS sums
     WHERE bytes <= %(max_bytes)s OR place = 1
 )
-UPDATE gearman_jobs AS job SET state = 'running', claims = claims + 1, holder = %(holder)s, claimed_at = now(),
+UPDATE gearman_jobs AS job SET state = 'running', claims = {NEXT_CLAIM}, holder = %(holder)s, claimed_at = now(),
     lease = now() + %(lease)s * interval '1 second'
 FROM fitting WHERE job.id = fitting.id
 RETURNING job.id, claims, function, unique_id, priority, attempts, losses, max_attempts,
@@ -45,13 +49,14 @@ FREE_ROWS = f"LATERAL (SELECT id FROM gearman_jobs AS found WHERE {OURS} FOR NO 
 STILL_OURS = f"""
 SELECT found.id, found.claims FROM gearman_jobs AS found, unnest(%s::bigint[], %s::bigint[]) AS new (id, claims) WHERE {OURS}"""
 WRITE = f"""
-UPDATE gearman_jobs AS job SET state = new.state, attempts = job.attempts + new.counted, losses = job.losses + new.lost,
-    result = new.result, error = CASE WHEN new.state = 'done' THEN NULL ELSE coalesce(new.error, job.error) END,
+UPDATE gearman_jobs AS job SET state = new.state, attempts = least(job.attempts, {MOST}) + new.counted,
+    losses = least(job.losses, {MOST}) + new.lost, result = new.result,
+    error = CASE WHEN new.state = 'done' THEN NULL ELSE coalesce(new.error, job.error) END,
     retry_at = CASE WHEN new.delay IS NULL THEN job.retry_at ELSE now() + new.delay * interval '1 second' END,
     ended_at = CASE WHEN new.state <> 'waiting' THEN now() END, holder = NULL, lease = NULL, server = NULL, handle = NULL
 FROM (VALUES %s) AS new (id, claims, state, counted, lost, result, error, delay), {FREE_ROWS}
 WHERE job.id = free_row.id
-RETURNING job.id, job.claims, CASE WHEN isfinite(job.run_at) THEN extract(epoch FROM now() - job.run_at)::float8 ELSE 0 END"""
+RETURNING job.id, job.claims, CASE WHEN isfinite({SINCE}) THEN extract(epoch FROM now() - {SINCE})::float8 ELSE 0 END"""
 RENEW = f"""
 UPDATE gearman_jobs AS job SET lease = now() + %(lease)s * interval '1 second', server = new.server, handle = new.handle
 FROM unnest(%(ids)s::bigint[], %(claims)s::bigint[], %(servers)s::text[], %(handles)s::text[]) AS new (id, claims, server, handle),
@@ -59,7 +64,7 @@ FROM unnest(%(ids)s::bigint[], %(claims)s::bigint[], %(servers)s::text[], %(hand
 WHERE job.id = free_row.id
 RETURNING job.id, job.claims"""
 FREE = f"""
-UPDATE gearman_jobs SET state = 'waiting', losses = losses + 1, holder = NULL, lease = NULL, server = NULL, handle = NULL,
+UPDATE gearman_jobs SET state = 'waiting', losses = least(losses, {MOST}) + 1, holder = NULL, lease = NULL, server = NULL, handle = NULL,
     error = 'the lease ended: its gmd-table went',
     retry_at = CASE WHEN losses >= {MANY_LOSSES}
         THEN now() + power(2, least(losses - {MANY_LOSSES}, {MAX_LOSS_DOUBLINGS})) * interval '1 second' ELSE retry_at END
@@ -223,11 +228,11 @@ class PostgreSQL:
         self.ask(f"UPDATE gearman_jobs_version SET identity = coalesce(%s, identity), home = {HOME}", [identity])
         return self.ask("SELECT identity FROM gearman_jobs_version")[0][0]
 
-    def bounds(self):
-        """The least and the greatest id."""
-        return self.ask("SELECT min(id), max(id) FROM gearman_jobs")[0]
+    def last_of_next(self, last, count):
+        """The last id of so many rows after this one, or None."""
+        return self.ask("SELECT max(id) FROM (SELECT id FROM gearman_jobs WHERE id > %s ORDER BY id LIMIT %s) AS next", [last, count])[0][0]
 
-    def purge(self, first, last, days, states):
-        """Deletes rows of these states, between these ids, that ended so many days ago. How many."""
-        return self.ask("""DELETE FROM gearman_jobs WHERE id BETWEEN %s AND %s AND state = ANY(%s)
-            AND ended_at < now() - %s * interval '1 day'""", [first, last, states, days])
+    def purge(self, before, last, days, states):
+        """Deletes rows of these states, after an id and up to another, that ended so many days ago. How many."""
+        return self.ask("""DELETE FROM gearman_jobs WHERE id > %s AND id <= %s AND state = ANY(%s)
+            AND ended_at < now() - %s * interval '1 day'""", [before, last, states, days])

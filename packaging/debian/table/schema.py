@@ -5,6 +5,8 @@ COLUMNS = ("id", "function", "state", "priority", "unique_id", "run_at", "retry_
            "holder", "lease", "server", "handle", "error", "created_at", "claimed_at", "ended_at")
 SIZES = ("data_bytes", "result_bytes")
 
+# The number of the next claim: after the greatest one they begin again.
+NEXT_CLAIM = f"CASE WHEN claims < {(1 << 63) - 1} THEN claims + 1 ELSE 1 END"
 # Where the table is. A copy of the database or of the table is elsewhere.
 HOME = """concat_ws('/', (SELECT system_identifier FROM pg_control_system()),
     (SELECT oid FROM pg_database WHERE datname = current_database()), 'gearman_jobs'::regclass::oid)"""
@@ -87,7 +89,8 @@ CREATE TABLE IF NOT EXISTS gearman_jobs (
     unique_id TEXT CHECK (length(CAST(unique_id AS BLOB)) <= 512),
     priority TEXT NOT NULL DEFAULT 'normal' CHECK (priority IN ('high', 'normal', 'low')),
     run_at TEXT NOT NULL DEFAULT ({SQLITE_NOW})
-        CHECK (run_at GLOB '[0-9][0-9][0-9][0-9]-[0-9][0-9]-[0-9][0-9] [0-9][0-9]:[0-9][0-9]:[0-9][0-9]*'),
+        CHECK (run_at GLOB '[0-9][0-9][0-9][0-9]-[0-9][0-9]-[0-9][0-9] [0-9][0-9]:[0-9][0-9]:[0-9][0-9]*'
+            AND substr(run_at, 20) NOT GLOB '*[^.0-9]*' AND julianday(run_at) IS NOT NULL),
     max_attempts INTEGER NOT NULL DEFAULT 5 CHECK (typeof(max_attempts) = 'integer' AND max_attempts >= 1),
     -- What gmd-table writes.
     state TEXT NOT NULL DEFAULT 'waiting' CHECK (state IN ('waiting', 'running', 'done', 'failed')),

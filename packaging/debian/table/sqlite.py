@@ -8,7 +8,7 @@ import sqlite3
 import time
 
 from rows import MANY_LOSSES, MAX_LOSS_DOUBLINGS, Row, unique_of
-from schema import COLUMNS, SIZES, SQLITE_NOW, WrongHome, check_version
+from schema import COLUMNS, NEXT_CLAIM, SIZES, SQLITE_NOW, WrongHome, check_version
 
 # Seconds, between which it looks whether another connection changed the file; and for which it waits for another one that writes.
 LOOK, BUSY = 0.05, 10
@@ -30,8 +30,8 @@ FIND = f"""
 SELECT id, {SIZE} FROM gearman_jobs WHERE state = 'waiting' AND function = CAST(? AS TEXT) AND priority = ? AND {DUE} <= {SQLITE_NOW}
 ORDER BY {DUE}, id LIMIT ?"""
 TAKE = f"""
-UPDATE gearman_jobs SET state = 'running', claims = claims + 1, holder = ?, claimed_at = {SQLITE_NOW}, lease = {later()} WHERE id = ?
-RETURNING id, claims, function, unique_id, priority, attempts, losses, max_attempts,
+UPDATE gearman_jobs SET state = 'running', claims = {NEXT_CLAIM}, holder = ?, claimed_at = {SQLITE_NOW}, lease = {later()} WHERE id = ?
+RETURNING id, claims, function, unique_id, priority, CAST(attempts AS INTEGER), CAST(losses AS INTEGER), max_attempts,
     CASE WHEN {SIZE} <= ? THEN CAST(data AS BLOB) END, {SIZE}, {DUE}"""
 WRITE = f"""
 UPDATE gearman_jobs SET state = :state, attempts = attempts + :counted, losses = losses + :lost, result = :result,
@@ -39,7 +39,7 @@ UPDATE gearman_jobs SET state = :state, attempts = attempts + :counted, losses =
     retry_at = CASE WHEN :delay IS NULL THEN retry_at ELSE {later(":delay")} END,
     ended_at = CASE WHEN :state <> 'waiting' THEN {SQLITE_NOW} END, holder = NULL, lease = NULL, server = NULL, handle = NULL
 WHERE id = :id AND claims = :claims AND state = 'running'
-RETURNING id, claims, coalesce((julianday('now') - julianday(run_at)) * 86400, 0)"""
+RETURNING id, claims, coalesce((julianday('now') - julianday(max(run_at, created_at))) * 86400, 0)"""
 RENEW = f"""
 UPDATE gearman_jobs SET lease = {later()}, server = ?, handle = ? WHERE id = ? AND claims = ? AND state = 'running' RETURNING id"""
 FREE = f"""
@@ -250,11 +250,11 @@ class SQLite:
             self.ask("INSERT INTO gearman_jobs_identity VALUES (?, ?)", (identity, self.home()))
         return identity
 
-    def bounds(self):
-        """The least and the greatest id."""
-        return self.ask("SELECT min(id), max(id) FROM gearman_jobs")[0]
+    def last_of_next(self, last, count):
+        """The last id of so many rows after this one, or None."""
+        return self.ask("SELECT max(id) FROM (SELECT id FROM gearman_jobs WHERE id > ? ORDER BY id LIMIT ?)", (last, count))[0][0]
 
-    def purge(self, first, last, days, states):
-        """Deletes rows of these states, between these ids, that ended so many days ago. How many."""
-        return self.ask(f"""DELETE FROM gearman_jobs WHERE id BETWEEN ? AND ? AND state IN ({", ".join("?" * len(states))})
-            AND ended_at < {later()}""", [first, last, *states, f"-{days * 86_400}"])
+    def purge(self, before, last, days, states):
+        """Deletes rows of these states, after an id and up to another, that ended so many days ago. How many."""
+        return self.ask(f"""DELETE FROM gearman_jobs WHERE id > ? AND id <= ? AND state IN ({", ".join("?" * len(states))})
+            AND ended_at < {later()}""", [before, last, *states, f"-{days * 86_400}"])
