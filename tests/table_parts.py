@@ -256,6 +256,8 @@ class Fake(threading.Thread):
     def __init__(self, answer):
         super().__init__(daemon=True)
         self.answer, self.listener = answer, socket.create_server(("127.0.0.1", 0))
+        # The system takes only a little of what isn't read.
+        self.listener.setsockopt(socket.SOL_SOCKET, socket.SO_RCVBUF, 1 << 16)
         self.port = self.listener.getsockname()[1]
         self.start()
 
