@@ -92,10 +92,10 @@ class Link:
         if not self.reason:
             say(f"{self.name}: {reason}; it is tried again")
         self.reason = self.reason or reason
-        rows = [row for row in self.unanswered if row] + [row for rows in self.jobs.values() for row in rows]
-        unanswered = [row for row in self.unanswered if row] if is_cut and not self.is_refused else []
+        unanswered = [row for row in self.unanswered if row]
+        rows = unanswered + [row for rows in self.jobs.values() for row in rows]
         being_sent = [row for row in unanswered if row.begin < self.queued - self.unsent < row.end]
-        suspect = (being_sent or unanswered or [None])[0]
+        suspect = (being_sent or unanswered or [None])[0] if is_cut and not self.is_refused else None
         error = f"{self.name}: {reason}"
         self.is_up = False
         self.carrier.unsent -= self.unsent
