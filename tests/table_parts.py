@@ -19,8 +19,8 @@ try:
 except ImportError:
     psycopg2 = None
 
-from loopback import (CAN_DO, GRAB_JOB_UNIQ, JOB_ASSIGN_UNIQ, MEBIBYTE, NO_JOB, NOOP, OPTION_REQ, OPTION_RES, PATIENCE, PRE_SLEEP,
-                      WORK_COMPLETE, Client, kind_of, own_port, packet, within)
+from loopback import (CAN_DO, ECHO_REQ, ECHO_RES, GRAB_JOB_UNIQ, JOB_ASSIGN_UNIQ, MEBIBYTE, NO_JOB, NOOP, OPTION_REQ, OPTION_RES, PATIENCE,
+                      PRE_SLEEP, WORK_COMPLETE, Client, kind_of, own_port, packet, within)
 from trials import ROOM_PATH, ROOT, Wrong
 
 PROGRAM = ROOT / "packaging/debian/gmd-table"
@@ -250,8 +250,9 @@ class Gmd:
 
 
 class Fake(threading.Thread):
-    """What answers as a server: OPTION_REQ, and each other packet by a function of its first MiB. If that returns None, the connection is
-    closed."""
+    """What answers as a server: options and echoes, and each other packet by a function of its first MiB. If that returns None, the
+    connection is closed."""
+    REPEATED = {OPTION_REQ: OPTION_RES, ECHO_REQ: ECHO_RES}
 
     def __init__(self, answer):
         super().__init__(daemon=True)
@@ -280,7 +281,8 @@ class Fake(threading.Thread):
                 size = 12 + int.from_bytes(came[8:12], "big")
                 if len(came) < min(size, MEBIBYTE):
                     break
-                answer = packet(OPTION_RES, b"exceptions", magic=b"\0RES") if kind_of(came) == OPTION_REQ else self.answer(came[:size])
+                again = self.REPEATED.get(kind_of(came))
+                answer = packet(again, came[12:size], magic=b"\0RES") if again else self.answer(came[:size])
                 if answer is None:
                     return
                 connection.sendall(answer)
