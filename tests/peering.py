@@ -1,6 +1,7 @@
-"""The servers that tests/peers tries, gmd with --as-gearmand and Debian's gearmand, and what its trials share."""
+"""The servers that tests/peers tries, gmd with the package's settings and Debian's gearmand, and what its trials share."""
 import contextlib
 import os
+import re
 import shutil
 import socket
 import subprocess
@@ -12,6 +13,8 @@ from trials import ROOM_PATH, ROOT, same
 
 GEARMAND = shutil.which("gearmand", path=f"{os.environ['PATH']}:/usr/sbin")
 HERE = ROOT / "tests"
+# The options that gmd has from its installation on: --as-gearmand is among them.
+PARAMS = re.search(r'(?m)^PARAMS="(.*)"$', (ROOT / "packaging/debian/gmd.default").read_text())[1].split()
 C, PHP, PERL = (ROOM_PATH / "peers",), ("php", HERE / "peers.php"), ("perl", HERE / "peers.pl")
 
 
@@ -22,7 +25,7 @@ def can_connect(port):
 
 def gmd():
     """The port of a gmd that serves what was written for gearmand. It ends well."""
-    return serving("--as-gearmand", "--slots", "256")
+    return serving(*PARAMS)
 
 
 @contextlib.contextmanager

@@ -10,7 +10,7 @@ import signal
 import subprocess
 import tarfile
 
-from peering import GEARMAND, GMD, PATIENCE, SERVERS
+from peering import GEARMAND, GMD, PARAMS, PATIENCE, SERVERS
 from trials import ROOM_PATH, Wrong, check, same, skip
 
 SOURCES = os.environ.get("SOURCES", "")
@@ -28,7 +28,7 @@ DIFFER = {
     "worker_014.phpt": "it wants handles with the machine's name, and gmd's have gmd's name",
     "worker_016.phpt": "it wants handles with the machine's name, and gmd's have gmd's name",
 }
-COMMANDS = {"gmd": f"{GMD} --as-gearmand", "gearmand": f"{GEARMAND} --log-file=/dev/null"}
+COMMANDS = {"gmd": " ".join([str(GMD), *PARAMS]), "gearmand": f"{GEARMAND} --log-file=/dev/null"}
 KINDS = [kind for kind in SERVERS if kind == "gmd" or GEARMAND]
 
 
