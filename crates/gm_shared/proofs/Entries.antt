@@ -182,6 +182,7 @@ module _ (k : Settings) (e : Event) (desk : ℕ) (noop : Noop) (touched : List �
           done_is = subst (λ steps. receipt.done ≡ done k (step_of e) (run k steps)) first.0 h.event.done_is;
           mode_is = subst (λ steps. receipt.mode ≡ mode (run k steps).notes) all.0 h.event.mode_is;
           touches = subst (λ steps. AreTouched k (steps_of log) steps touched) all.0 h.event.touches;
+          renews = subst (λ (z : List Step × List Step). AreTouched k z.0 z.1 touched) (λ j. (first.0 j, all.0 j)) h.event.renews;
           at_is = h.place ∙ place_is taped log (noop_entries desk noop) old.tape on recorded;
         };
       })

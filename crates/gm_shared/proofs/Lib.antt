@@ -13,3 +13,4 @@ mod Entries
 mod Standing
 mod Shares
 mod Passing
+mod Resting

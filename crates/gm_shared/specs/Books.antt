@@ -67,13 +67,16 @@ shown_at c past = (waiting c past.flow, phase c past.notes, is_closing c past)
 abbrev pub AreTouched : Settings → List Step → List Step → List ℕ → Type 0
 AreTouched k older steps touched = (c : ℕ) → has touched c ≡ false → shown_at c (run k steps) ≡ shown_at c (run k older)
 
--- The event was taken after these steps, as the receipt tells, and touched these slots.
+-- The event was taken after these steps, as the receipt tells, and touched these slots: each that changed in it, and each
+-- that changed since the older steps. A worker whose NOOP was entered as taken, and that is owed one again, changed only
+-- in the event.
 pub record IsTaken (k : Settings) (older steps : List Step) (s : Step) (receipt : Receipt) (touched : List ℕ) (new : Booked) : Type 0 where
   pub taken : refusal k s (run k steps) ≡ None
   pub done_is : receipt.done ≡ done k s (run k steps)
   pub mode_is : receipt.mode ≡ mode (run k (s ∷ steps)).notes
   pub agrees : BookedAgrees new k (s ∷ steps)
   pub touches : AreTouched k older (s ∷ steps) touched
+  pub renews : AreTouched k steps (s ∷ steps) touched
 
 abbrev pub IsDone : Settings → List Step → List Step → Step → Result Receipt ApplyError → List ℕ → Booked → Type 0
 IsDone k older steps s (Ok receipt) touched new = IsTaken k older steps s receipt touched new

@@ -28,13 +28,14 @@ past_of k log = run k (steps_of log)
 -- ---- a desk's call
 
 -- The event was taken after the entries `before`, with the definitions' answer and mode, and with a tape the place
--- after them. Each slot that it changed is among the touched slots, and each that was changed since `older`, when the
--- call began.
+-- after them. Each slot that it changed is among the touched slots, also one that is as it was at `older`, when the call
+-- began, since its NOOP was entered as taken and it is owed one again; and each that was changed since `older`.
 pub record IsAnswered (k : Settings) (taped : Bool) (s : Step) (receipt : Receipt) (touched : List ℕ) (older before after : List Entry) : Type 0 where
   pub taken : refusal k s (past_of k before) ≡ None
   pub done_is : receipt.done ≡ done k s (past_of k before)
   pub mode_is : receipt.mode ≡ mode (past_of k after).notes
   pub touches : AreTouched k (steps_of older) (steps_of after) touched
+  pub renews : AreTouched k (steps_of before) (steps_of after) touched
   pub at_is : receipt.at ≡ (if taped then Some (length before) else None)
 
 abbrev pub Answers : Settings → Bool → Step → Result Receipt ApplyError → List ℕ → List Entry → List Entry → List Entry → Type 0

@@ -9,3 +9,4 @@ pub mod Calls
 pub mod Shared
 pub mod Laws
 pub mod Pairings
+pub mod Resting

@@ -11,7 +11,7 @@ use Rattle.gm_shared.specs.Tapes.{AreCopies, tape_step, noop_entries, event_entr
 use Rattle.gm_shared.proofs.Taping.{grows_none, grows_same, grows_twice, place_after, tape_same, tape_after, noop_tape, event_tape}
 use Rattle.gm_shared.proofs.Keeping.{held_so}
 use Rattle.gm_shared.proofs.Noops.{asks_still}
-use Rattle.gm_shared.proofs.Applying.{closes_calm, asked_before, agrees_after, touches, keeps_added}
+use Rattle.gm_shared.proofs.Applying.{closes_calm, asked_before, agrees_after, touches, renews, keeps_added}
 use Rattle.gm_shared.proofs.book.Booked.hold.Goals as goal
 
 pub returns-in_err-done-clause-holding : goal.returns-in_err-done-clause-holding
@@ -87,6 +87,7 @@ returns-clause-holding c = λ k steps h.
             tape = all_kept;
           };
           touches = touches k event before c.resolve_noop-noop.new.self _ c.follow.new.self _ _ found.1 refl refl answer.1 c.in_ok-done.ensures.touched c.follow.ensures.follows calm c.args.self.now steps noop refl h.holds.core c.resolve_noop-noop.ensures.touched;
+          renews = renews k event before c.resolve_noop-noop.new.self _ c.follow.new.self _ _ found.1 refl refl answer.1 c.in_ok-done.ensures.touched c.follow.ensures.follows calm;
         };
         tape = grows_twice (noop_entries desk noop) _ old then_ new _ _ noop_all last;
         place = c.enter_event-at.ensures.place (tape_step (step_of event)) copies ∙ place_after _ old then_ _ noop_all;
