@@ -1,9 +1,11 @@
 """A server that is shut down when a trial is done with it, and what its clients and workers do."""
 import contextlib
+import os
+import struct
 import time
 
 from loopback import CAN_DO, GRAB_JOB, JOB_CREATED, PATIENCE, SUBMIT_JOB, SUBMIT_JOB_BG, Client, Server, packet
-from trials import Wrong, program, same
+from trials import ROOM_PATH, Wrong, library, program, same
 
 GMD = program("gmd", "gmd")
 
@@ -20,6 +22,17 @@ def serving(*options, connections=None):
         same("shutdown", last.lines(b"shutdown"), ["OK"])
         last.close()
         server.ended(0, "gmd: ended, connections served: " + ("" if connections is None else f"{connections + 1}\n"))
+
+
+@contextlib.contextmanager
+def with_clock():
+    """A server whose clock stands still, and what puts it forward to so many milliseconds from its start."""
+    with open(ROOM_PATH / "clock", "w+b") as clock:
+        put = lambda milliseconds: os.pwrite(clock.fileno(), struct.pack("q", 1_000_000_000 + milliseconds), 0)
+        put(0)
+        env = {"LD_PRELOAD": str(library()), "FAIL": "clock", "FAIL_TOLD": str(clock.fileno())}
+        with Server(GMD, env=env, told=[clock.fileno()]) as server:
+            yield server, put
 
 
 def drip(client, most, is_over):

@@ -25,8 +25,6 @@ UNSERVED = {
     "served_beside_announcers": NO_LIMIT,
     "shutdown_beside_slow": SLOW,
     "shutdown_beside_long_end": SLOW,
-    "shutdown_end: beside a peer that takes nothing": SLOW,
-    "shutdown_end: beside one that takes little": SLOW,
 } if "UNPROVED" in os.environ else {}
 
 
