@@ -29,12 +29,6 @@ class Server(loopback.Server):
     def __init__(self, *options, under=(), env=None, told=()):
         super().__init__(GMD, *options, under=under, env={**PATH, **(env or {})}, told=told)
 
-    def used(self):
-        """How many seconds of processor time it used."""
-        with open(f"/proc/{self.process.pid}/stat", encoding="ascii") as stat:
-            fields = stat.read().rpartition(")")[2].split()
-        return (int(fields[11]) + int(fields[12])) / os.sysconf("SC_CLK_TCK")
-
     def wakings(self):
         """How often those of its threads that are there waited and were woken."""
         count = 0

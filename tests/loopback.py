@@ -11,6 +11,7 @@ from packets import *  # pylint: disable=wildcard-import,unused-wildcard-import
 from trials import ROOM_PATH, Wrong
 
 PATIENCE = 60  # seconds, after which something doesn't come any more
+IDLE = 0.2  # seconds of processor time: a server that uses less in all this time does nothing
 LISTENING, LISTENING_AS_GEARMAND = b"gmd: listening\n", b"gmd: listening, as gearmand\n"
 MEBIBYTE = 1_048_576
 # Lets connections to different servers share a port, which is taken for a minute after an end (ip(7)). Python names it from 3.12 on.
@@ -75,11 +76,15 @@ class Server:
         return os.pread(self.error.fileno(), os.fstat(self.error.fileno()).st_size, 0).decode(errors="replace")
 
     def has_ended(self, status, line=""):
-        """Whether it ended with this status, and said this on standard error."""
-        try:
-            return self.process.wait(PATIENCE) == status and line in self.errors()
-        except subprocess.TimeoutExpired:
-            raise Wrong("the server doesn't end") from None
+        """Whether it ended with this status, and said this on standard error. On a busy machine its end may take long, but it goes on."""
+        used = 0
+        while True:
+            try:
+                return self.process.wait(PATIENCE) == status and line in self.errors()
+            except subprocess.TimeoutExpired:
+                before, used = used, self.used()
+                if used - before < IDLE:
+                    raise Wrong("the server doesn't end") from None
 
     def says(self, text, count=1):
         """Whether this comes on standard error so often, which a thread of its own writes."""
@@ -94,6 +99,12 @@ class Server:
         """How many threads it has."""
         with open(f"/proc/{self.process.pid}/status", encoding="ascii") as status:
             return int(re.search("^Threads:\t([0-9]+)$", status.read(), re.M)[1])
+
+    def used(self):
+        """How many seconds of processor time it used."""
+        with open(f"/proc/{self.process.pid}/stat", encoding="ascii") as stat:
+            fields = stat.read().rpartition(")")[2].split()
+        return (int(fields[11]) + int(fields[12])) / os.sysconf("SC_CLK_TCK")
 
     def ended(self, status, line=""):
         """It ends so."""
