@@ -70,6 +70,21 @@ class PostgreSQL:
     def restart(self, mode):
         self.call("pg_ctl", "-D", "data", "-w", "-m", mode, "-l", "log", "restart")
 
+    @contextlib.contextmanager
+    def silenced(self):
+        """All its processes are stopped, and answer nothing."""
+        server = (self.folder / "data/postmaster.pid").read_text(encoding="ascii").split()[0]
+        os.kill(int(server), signal.SIGSTOP)
+        # No child comes or goes while the server, which would have to make or await it, is stopped.
+        children = [int(child) for child in pathlib.Path(f"/proc/{server}/task/{server}/children").read_text(encoding="ascii").split()]
+        try:
+            for child in children:
+                os.kill(child, signal.SIGSTOP)
+            yield
+        finally:
+            for process in (*children, int(server)):
+                os.kill(process, signal.SIGCONT)
+
     def close(self):
         with contextlib.suppress(Wrong):
             self.call("pg_ctl", "-D", "data", "-m", "immediate", "-w", "stop")

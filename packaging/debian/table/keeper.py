@@ -17,8 +17,9 @@ MAX_WRITTEN, MAX_WRITTEN_BYTES = 1000, 16 << 20
 # Seconds: between looks for ended leases; from a row's begin to the first renewal of its lease, which writes its server and handle too; and
 # between tries of a database that is away.
 FREE_EACH, FIRST_RENEWAL, RETRY_FIRST, RETRY_MOST = 1, 1, 0.1, 2
-# Seconds that few rows wait for others that are taken with them.
-GATHERING = 0.01
+# Seconds: that few rows wait for others that are taken with them; after which a question without an answer has the database count as away;
+# and as which a longer look for functions counts, because a database that was silent for a while isn't slow.
+GATHERING, SILENCE, MAX_COST = 0.01, 5, 0.5
 
 
 class Keeper(threading.Thread):
@@ -35,6 +36,7 @@ class Keeper(threading.Thread):
         self.pairs, self.pairs_read, self.pairs_cost = [], 0.0, 0.0
         self.has_new, self.gathers, self.lacks_space, self.last_claim = True, False, False, 0.0
         self.freed, self.failure, self.fault = 0.0, None, None
+        self.asked = None  # when the question was put that has no answer yet
         self.has_opened = self.has_stopped = False
         self.is_stopping = False
 
@@ -50,7 +52,22 @@ class Keeper(threading.Thread):
         self.is_stopping = True
         self.bell.ring()
 
+    ### What the numbers call
+
+    def is_answered(self):
+        """Whether the database is there: it took the last question, and hasn't left it without an answer for long."""
+        asked = self.asked
+        return self.failure is None and (asked is None or time.monotonic() < asked + SILENCE)
+
     ### The thread
+
+    def ask(self, question, *values):
+        """The answer of the store."""
+        self.asked = time.monotonic()
+        try:
+            return question(*values)
+        finally:
+            self.asked = None
 
     def run(self):
         """Works until it is asked to stop and all rows on the way were written. A database that is away is tried again, and so is one whose
@@ -79,7 +96,7 @@ class Keeper(threading.Thread):
         """Connects where there is no connection. Others get time to renew their leases too, before they count as gone."""
         if self.store.connection:
             return
-        self.store.open()
+        self.ask(self.store.open)
         self.has_new = self.has_opened = True
         self.freed = time.monotonic() + self.options.lease / 2
 
@@ -119,7 +136,7 @@ class Keeper(threading.Thread):
         if not batch:
             return False
         try:
-            locked = self.settle(batch, *self.store.write(batch))
+            locked = self.settle(batch, *self.ask(self.store.write, batch))
         except self.store.errors as error:
             if not self.store.is_of_row(error):
                 raise
@@ -131,14 +148,15 @@ class Keeper(threading.Thread):
         lease ends some day. How many were locked."""
         outcome = self.unwritten[0]
         try:
-            return self.settle([outcome], *self.store.write([outcome]))
+            return self.settle([outcome], *self.ask(self.store.write, [outcome]))
         except self.store.errors as error:
             if not self.store.is_of_row(error):
                 raise
             reason = str(error).partition("\n")[0]
         say(f"row {outcome.row.id}: the database doesn't take what became of it: {reason}")
         try:
-            written = self.store.write([failed(outcome.row, f"the database doesn't take its result: {reason}", self.options.delays)])
+            failure = failed(outcome.row, f"the database doesn't take its result: {reason}", self.options.delays)
+            written = self.ask(self.store.write, [failure])
         except self.store.errors as error:
             if not self.store.is_of_row(error):
                 raise
@@ -176,7 +194,7 @@ class Keeper(threading.Thread):
                 if row.is_ours and now - row.renewed >= (third if row.renewed > row.claimed else min(FIRST_RENEWAL, third))]
         for begin in range(0, len(rows), MAX_WRITTEN):
             some = rows[begin : begin + MAX_WRITTEN]
-            renewed, locked = self.store.renew(some)
+            renewed, locked = self.ask(self.store.renew, some)
             for row in some:
                 if row.claim not in locked:
                     row.renewed = now
@@ -187,7 +205,7 @@ class Keeper(threading.Thread):
         now = time.monotonic()
         if now >= self.freed + FREE_EACH:
             self.freed = now
-            if count := self.store.free():
+            if count := self.ask(self.store.free):
                 self.has_new = True
                 self.numbers.freed += count
 
@@ -196,9 +214,9 @@ class Keeper(threading.Thread):
         now = time.monotonic()
         if now >= self.pairs_read + (10 * self.pairs_cost if self.has_new else max(self.options.poll, 10 * self.pairs_cost)):
             self.has_new = False
-            found = self.store.pairs()
+            found = self.ask(self.store.pairs)
             self.pairs_read = time.monotonic()
-            self.pairs_cost = self.pairs_read - now
+            self.pairs_cost = min(self.pairs_read - now, MAX_COST)
             # The functions take turns in being the first.
             begin = int(now * 1000) % len(found) if found else 0
             self.pairs = found[begin:] + found[:begin]
@@ -230,7 +248,7 @@ class Keeper(threading.Thread):
             if space <= 0:
                 self.lacks_space = True
                 return False
-            found = self.store.claim(priority, rooms, space)
+            found = self.ask(self.store.claim, priority, rooms, space)
             self.last_claim = time.monotonic()
             self.take(found)
             taken = collections.Counter(row.function for row in found)

@@ -9,8 +9,9 @@ from bell import say
 
 # Seconds from due to done, up to which rows are counted.
 BOUNDS = (0.01, 0.025, 0.05, 0.1, 0.25, 0.5, 1, 2.5, 5, 10, 30, 60, 300, 1800, 3600, 86_400)
-# Seconds: for a request to come and its answer to be taken; and between two questions to the database, at least.
-TIMEOUT, FRESH = 5, 5
+# Seconds: for a request to come and its answer to be taken; between two questions to the database, at least; and that an answer waits for
+# the database's.
+TIMEOUT, FRESH, MOMENT = 5, 5, 0.5
 MAX_CLIENTS, MAX_HEAD = 8, 4096
 
 
@@ -54,7 +55,7 @@ def of_process(numbers, carrier, keeper):
             ("freed_total", "counter", numbers.freed, "Rows that wait again because their lease had ended."),
             ("late_total", "counter", numbers.late, "Results that were dropped, because another had taken the row or it was cancelled."),
             ("on_the_way", "gauge", len(keeper.on_the_way), "Rows that this gmd-table has."),
-            ("database_up", "gauge", int(keeper.failure is None), "Whether the database answers.")):
+            ("database_up", "gauge", int(keeper.is_answered()), "Whether the database answers, and is not silent for five seconds.")):
         yield from [*head_of(f"gearman_table_{name}", kind, text), f"gearman_table_{name} {value}"]
     yield from head_of("gearman_table_server_up", "gauge", "Whether a server answers.")
     for link in carrier.links:
@@ -83,23 +84,30 @@ class Exporter:
 
     def __init__(self, store, numbers, carrier, keeper):
         self.store, self.numbers, self.carrier, self.keeper = store, numbers, carrier, keeper
-        self.lock, self.kept, self.fresh_until = threading.Lock(), [], 0.0
+        self.lock, self.asking, self.kept, self.fresh_until = threading.Lock(), threading.Thread(), [], 0.0
 
     def rows(self):
-        """What the database knows, or nothing where it is away."""
+        """What the database knows: what it says in a moment, or said last. Nothing where it is away, or has said nothing yet."""
         with self.lock:
+            if not self.asking.is_alive() and time.monotonic() >= self.fresh_until:
+                self.asking = threading.Thread(target=self.ask, name="rows", daemon=True)
+                self.asking.start()
+        self.asking.join(MOMENT)
+        return self.kept if self.keeper.is_answered() else []
+
+    def ask(self):
+        """Asks the database, in a thread of its own: it may never answer."""
+        try:
+            self.store.open()
             begun = time.monotonic()
-            if begun >= self.fresh_until:
-                try:
-                    self.store.open()
-                    self.kept = list(of_database(self.store))
-                except Exception as error:  # pylint: disable=broad-except
-                    say(f"the numbers of rows: {str(error).strip()}")
-                    self.kept = []
-                # A connection belongs to the thread that made it.
-                self.store.close()
-                self.fresh_until = time.monotonic() + max(FRESH, 10 * (time.monotonic() - begun))
-            return self.kept
+            self.kept = list(of_database(self.store))
+            pause = max(FRESH, 10 * (time.monotonic() - begun))
+        except Exception as error:  # pylint: disable=broad-except
+            say(f"the numbers of rows: {str(error).strip()}")
+            self.kept, pause = [], FRESH
+        # A connection belongs to the thread that made it.
+        self.store.close()
+        self.fresh_until = time.monotonic() + pause
 
     def text(self):
         return "\n".join([*of_process(self.numbers, self.carrier, self.keeper), *self.rows()]) + "\n"
